@@ -1,0 +1,44 @@
+-- The laws that callers need of a bit read: its range, that it is its bits one after the other, and that it is one spelling and no other.
+-- Assumes nothing.
+use Prim.Native.Nat.{ℕ, zero, suc, _+_, _*_, _<_, _^_}
+use mathlib.Core.Path.{_≡_, sym, ap, _∙_}
+use mathlib.Core.Logic.{_↔_}
+use mathlib.Core.List.{List, append-nil}
+use native.Mathlib.Nat.{add-zero, add-suc, pow-suc, mul-assoc}
+use native.Mathlib.Omega.{arith}
+use Rattle.bits.specs.declared.Bits.{Bits}
+use Rattle.bits.specs.Bit.{bitAt, Stands, spell, number}
+use Rattle.bits.specs.Refusal.{Name}
+use Rattle.bits.specs.Read.{readBits}
+use Rattle.bits.specs.Reader.{read, field}
+use Rattle.bits.proofs.Stand.{number-spelt}
+use Rattle.bits.proofs.Laws.{field-reads}
+
+-- a read of m + n bits is the one of m bits, followed by the one of n bits
+pub number-join : (s : List ℕ) (p m n : ℕ) → number s p (m + n) ≡ number s p m * 2 ^ n + number s (p + m) n
+unfolding number
+number-join s p m zero = rw add-zero (omega arith)
+number-join s p m (suc n) =
+    let e : number s p (m + suc n) ≡ number s p (m + n) * 2 + bitAt s (p + (m + n)) = rw add-suc in
+    let b : bitAt s (p + (m + n)) ≡ bitAt s (p + m + n) = ap (bitAt s) (omega arith) in
+    let d : number s p m * 2 ^ suc n ≡ number s p m * 2 ^ n * 2 = rw (pow-suc, ← mul-assoc) in
+    omega (arith, e, b, d, number-join s p m n)
+
+-- v is read exactly if v is in range and its n bits stand there
+pub reads-exactly : (x : Name) (s : List ℕ) (p n v : ℕ) → (field x n s p ≡ read v (p + n)) ↔ ((v < 2 ^ n) × Stands s p (spell n v))
+reads-exactly x s p n v = (
+  λ h. let m = field-reads {x = x} .sound s p v (p + n) h in (m .2 .ranged .0 .0, rw append-nil at (m .2 .stands)),
+  λ h. (rw add-zero at (field-reads {x = x} .complete s p v tt tt (record { ranged = ((h .0, tt), tt); stands = rw append-nil (h .1) }))),
+)
+
+-- of two numbers in range whose spellings stand there, both are one
+pub one-spelling : (s : List ℕ) (p n v w : ℕ) → v < 2 ^ n → w < 2 ^ n → Stands s p (spell n v) → Stands s p (spell n w) → v ≡ w
+one-spelling s p n v w lv lw hv hw = sym (number-spelt s p n v lv hv .1) ∙ number-spelt s p n w lw hw .1
+
+-- any two answers that meet the promise of `read_bits` are one
+pub one-answer : (s : List ℕ) (p n : ℕ) (r q : Bits) → r ≡ readBits s p n → q ≡ readBits s p n → r ≡ q
+one-answer s p n r q h k = h ∙ sym k
+
+-- an answer is fixed by what its view is, where an answer can be had back from a view
+pub one-of : {R G : Type 0} (view : R → G) (answer : G → R) → ((r : R) → answer (view r) ≡ r) → (r q : R) (x : G) → view r ≡ x → view q ≡ x → r ≡ q
+one-of view answer back r q x h k = sym (back r) ∙ ap answer (h ∙ sym k) ∙ back q

@@ -1,0 +1,194 @@
+-- Lists of fields: where they stand, and where they stop.
+-- Assumes nothing.
+use Prim.Native.Nat.{ℕ, _+_, _≤_}
+use mathlib.Core.Path.{_≡_, refl}
+use mathlib.Core.Logic.{_⊎_, inl, inr}
+use mathlib.Core.Bool.{Bool, true, false}
+use mathlib.Core.List.{List, [], _∷_, _++_, append-assoc}
+use native.Mathlib.Nat.{add-zero, zero-add, add-assoc}
+use native.Mathlib.Omega.{arith}
+use lib.ListN.{length, length-append}
+use Rattle.bits.specs.Bit.{Stands}
+use Rattle.bits.specs.Refusal.{Name, Reason}
+use Rattle.bits.specs.Syntax.{Field, fld, optional, flat, size, Ranged, Fits, Fault, Stops}
+use Rattle.bits.specs.Reader.{Read, read, stopped}
+use Rattle.bits.specs.Law.{Past}
+use Rattle.bits.proofs.Stand.{stands-join, stands-left, stands-right, length-spell}
+
+pub flat-append : (fs gs : List Field) → flat (fs ++ gs) ≡ flat fs ++ flat gs
+flat-append [] gs = refl
+flat-append (f ∷ fs) gs = rw (flat-append fs gs, append-assoc)
+
+pub size-append : (fs gs : List Field) → size (fs ++ gs) ≡ size fs + size gs
+size-append [] gs = rw zero-add
+size-append (f ∷ fs) gs = rw (size-append fs gs, add-assoc)
+
+-- bounds of a spelling's bits, put together as the spelling is
+pub size-join : (fs gs : List Field) (m n : ℕ) → size fs ≤ m → size gs ≤ n → size (fs ++ gs) ≤ m + n
+size-join fs gs m n h k = omega (arith, size-append fs gs)
+
+pub size-optional : (b : Bool) (fs : List Field) (n : ℕ) → size fs ≤ n → size (optional b fs) ≤ n
+size-optional true fs n h = h
+size-optional false fs n h = omega arith
+
+pub size-if : (b : Bool) (x : Name) (w n : ℕ) → size (optional b (fld x w n ∷ [])) ≤ w
+size-if b x w n = size-optional b (fld x w n ∷ []) w (omega arith)
+
+pub length-flat : (fs : List Field) → length (flat fs) ≡ size fs
+length-flat [] = refl
+length-flat (f ∷ fs) = simp (length-append, length-spell, length-flat fs)
+
+pub ranged-join : (fs gs : List Field) → Ranged fs → Ranged gs → Ranged (fs ++ gs)
+ranged-join [] gs h k = k
+ranged-join (f ∷ fs) gs h k = (h .0, ranged-join fs gs (h .1) k)
+
+ranged-left : (fs gs : List Field) → Ranged (fs ++ gs) → Ranged fs
+ranged-left [] gs h = tt
+ranged-left (f ∷ fs) gs h = (h .0, ranged-left fs gs (h .1))
+
+ranged-right : (fs gs : List Field) → Ranged (fs ++ gs) → Ranged gs
+ranged-right [] gs h = h
+ranged-right (f ∷ fs) gs h = ranged-right fs gs (h .1)
+
+pub fits-join : (s : List ℕ) (p : ℕ) (fs gs : List Field) → Fits s p fs → Fits s (p + size fs) gs → Fits s p (fs ++ gs)
+fits-join s p fs gs h k = record {
+  ranged = ranged-join fs gs (h .ranged) (k .ranged);
+  stands = rw flat-append (stands-join s p (flat fs) (flat gs) (h .stands) (rw length-flat (k .stands)));
+}
+
+pub fits-left : (s : List ℕ) (p : ℕ) (fs gs : List Field) → Fits s p (fs ++ gs) → Fits s p fs
+fits-left s p fs gs h = record {
+  ranged = ranged-left fs gs (h .ranged);
+  stands = stands-left s p (flat fs) (flat gs) (rw flat-append at (h .stands));
+}
+
+pub fits-right : (s : List ℕ) (p : ℕ) (fs gs : List Field) → Fits s p (fs ++ gs) → Fits s (p + size fs) gs
+fits-right s p fs gs h = record {
+  ranged = ranged-right fs gs (h .ranged);
+  stands = rw length-flat at (stands-right s p (flat fs) (flat gs) (rw flat-append at (h .stands)));
+}
+
+pub fits-nil : (s : List ℕ) (p : ℕ) → Fits s p []
+fits-nil s p = record { ranged = tt; stands = unfold Stands in tt }
+
+-- a list in two parts that has a member: it stands in the one or in the other
+Where : (fs gs b : List Field) (x : Field) (a : List Field) → Type 0
+Where fs gs b x a = ((c : List Field) × (fs ≡ b ++ (x ∷ c))) ⊎ ((d : List Field) × (b ≡ fs ++ d) × (gs ≡ d ++ (x ∷ a)))
+
+in-part : (fs gs b : List Field) (x : Field) (a : List Field) → fs ++ gs ≡ b ++ (x ∷ a) → Where fs gs b x a
+unfolding Where
+in-part [] gs b x a e = inr (b, refl, e)
+in-part (f ∷ fs) gs [] x a e = let fx : f ≡ x = cc in inl (fs, rw fx)
+in-part (f ∷ fs) gs (y ∷ b) x a e =
+    let fy : f ≡ y = cc in
+    let r : fs ++ gs ≡ b ++ (x ∷ a) = cc in
+    go fy (in-part fs gs b x a r)
+  where
+    go : f ≡ y → Where fs gs b x a → Where (f ∷ fs) gs (y ∷ b) x a
+    go fy (inl h) = inl (h .0, rw (fy, h .1))
+    go fy (inr h) = inr (h .0, rw (fy, h .1), h .2)
+
+-- one list in two parts, cut elsewhere
+Parts : (fs gs b c : List Field) → Type 0
+Parts fs gs b c = ((d : List Field) × (fs ≡ b ++ d)) ⊎ ((d : List Field) × (b ≡ fs ++ d) × (gs ≡ d ++ c))
+
+parts′ : (fs gs b c : List Field) → fs ++ gs ≡ b ++ c → Parts fs gs b c
+unfolding Parts
+parts′ [] gs b c e = inr (b, refl, e)
+parts′ (f ∷ fs) gs [] c e = inl (f ∷ fs, refl)
+parts′ (f ∷ fs) gs (y ∷ b) c e =
+    let fy : f ≡ y = cc in
+    let r : fs ++ gs ≡ b ++ c = cc in
+    go fy (parts′ fs gs b c r)
+  where
+    go : f ≡ y → Parts fs gs b c → Parts (f ∷ fs) gs (y ∷ b) c
+    go fy (inl h) = inl (h .0, rw (fy, h .1))
+    go fy (inr h) = inr (h .0, rw (fy, h .1), h .2)
+
+pub parts : (fs gs b c : List Field) → fs ++ gs ≡ b ++ c → ((d : List Field) × (fs ≡ b ++ d)) ⊎ ((d : List Field) × (b ≡ fs ++ d) × (gs ≡ d ++ c))
+unfolding Parts
+parts = parts′
+
+pub past-none : {A : Type 0} (p : ℕ) (x : Read A) (b c : List Field) → [] ≡ b ++ c → Past p x → Past (p + size b) x
+past-none p x [] c e h = rw add-zero h
+past-none p x (y ∷ b) c e h = let z : _≡_ {A = ℕ} 0 1 = cc in absurd (omega arith)
+
+pub past-one : {A : Type 0} (s : List ℕ) (p : ℕ) (x : Read A) (f : Field) (b c : List Field) → f ∷ [] ≡ b ++ c → Fits s p b → Past p x → (Fits s p (f ∷ []) → Past (p + size (f ∷ [])) x) → Past (p + size b) x
+past-one s p x f [] c e h k m = rw add-zero k
+past-one s p x f (y ∷ []) c e h k m = let fy : f ≡ y = cc in rw (← fy) (m (rw fy h))
+past-one s p x f (y ∷ (z ∷ b)) c e h k m = let z : _≡_ {A = ℕ} 0 1 = cc in absurd (omega arith)
+
+pub past-less : {A : Type 0} (n m : ℕ) (x : Read A) → n ≤ m → Past m x → Past n x
+past-less n m (read a e) l h = omega arith
+past-less n m (stopped w) l h = omega arith
+
+module _ (s : List ℕ) (p : ℕ) (w : Reason) where
+  pub stops-nil : Stops s p [] w → ⊥
+  stops-nil h = go (h .before) (h .split)
+    where
+      go : (b : List Field) → [] ≡ b ++ (h .at ∷ h .after) → ⊥
+      go [] e = let z : _≡_ {A = ℕ} 0 1 = cc in omega arith
+      go (x ∷ b) e = let z : _≡_ {A = ℕ} 0 1 = cc in omega arith
+
+  pub stops-left : (fs gs : List Field) → Stops s p fs w → Stops s p (fs ++ gs) w
+  stops-left fs gs h = record {
+    before = h .before;
+    at = h .at;
+    after = h .after ++ gs;
+    split = rw (h .split, append-assoc);
+    well = h .well;
+    fault = h .fault;
+  }
+
+  pub stops-right : (fs gs : List Field) → Fits s p fs → Stops s (p + size fs) gs w → Stops s p (fs ++ gs) w
+  stops-right fs gs k h = record {
+    before = fs ++ h .before;
+    at = h .at;
+    after = h .after;
+    split = rw (h .split, append-assoc);
+    well = fits-join s p fs (h .before) k (h .well);
+    fault = rw (size-append, ← add-assoc) (h .fault);
+  }
+
+  pub stops-in : (fs gs : List Field) → Stops s p (fs ++ gs) w → Stops s p fs w ⊎ (Fits s p fs × Stops s (p + size fs) gs w)
+  unfolding Where
+  stops-in fs gs h = go (in-part fs gs (h .before) (h .at) (h .after) (h .split))
+    where
+      go : Where fs gs (h .before) (h .at) (h .after) → Stops s p fs w ⊎ (Fits s p fs × Stops s (p + size fs) gs w)
+      go (inl k) = inl (record { before = h .before; at = h .at; after = k .0; split = k .1; well = h .well; fault = h .fault })
+      go (inr k) =
+          let f : Fits s p (fs ++ k .0) = rw (k .1) at (h .well) in
+          inr (
+            fits-left s p fs (k .0) f,
+            record {
+              before = k .0;
+              at = h .at;
+              after = h .after;
+              split = k .2;
+              well = fits-right s p fs (k .0) f;
+              fault = rw (k .1, size-append, ← add-assoc) at (h .fault);
+            },
+          )
+
+  -- a field alone
+  pub stops-one : (f : Field) → Fault s p f w → Stops s p (f ∷ []) w
+  stops-one f h = record { before = []; at = f; after = []; split = refl; well = fits-nil s p; fault = rw add-zero h }
+
+  pub one-stops : (f : Field) → Stops s p (f ∷ []) w → Fault s p f w
+  one-stops f h = go (h .before) (h .split) (h .fault)
+    where
+      go : (b : List Field) → f ∷ [] ≡ b ++ (h .at ∷ h .after) → Fault s (p + size b) (h .at) w → Fault s p f w
+      go [] e k = let fa : f ≡ h .at = cc in rw fa (rw add-zero at k)
+      go (x ∷ []) e k = let z : _≡_ {A = ℕ} 0 1 = cc in absurd (omega arith)
+      go (x ∷ (y ∷ b)) e k = let z : _≡_ {A = ℕ} 0 1 = cc in absurd (omega arith)
+
+  -- a field and more
+  pub stops-first : (f : Field) (fs : List Field) → Stops s p (f ∷ fs) w → Fault s p f w ⊎ (Fits s p (f ∷ []) × Stops s (p + size (f ∷ [])) fs w)
+  stops-first f fs h = go (stops-in (f ∷ []) fs h)
+    where
+      go : Stops s p (f ∷ []) w ⊎ (Fits s p (f ∷ []) × Stops s (p + size (f ∷ [])) fs w) → Fault s p f w ⊎ (Fits s p (f ∷ []) × Stops s (p + size (f ∷ [])) fs w)
+      go (inl k) = inl (one-stops f k)
+      go (inr k) = inr k
+
+  pub first-stops : (f : Field) (fs : List Field) → Fault s p f w → Stops s p (f ∷ fs) w
+  first-stops f fs h = stops-left (f ∷ []) fs (stops-one f h)

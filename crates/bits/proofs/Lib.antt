@@ -1,0 +1,9 @@
+pub mod Number
+pub mod Stand
+pub mod Begins
+pub mod Fields
+pub mod Laws
+pub mod Many
+pub mod Told
+pub mod Steps
+pub mod Exact

@@ -1,0 +1,74 @@
+-- The law of a syntax that is repeated, and the steps of a loop that reads it.
+-- Assumes nothing.
+use Prim.Native.Nat.{ℕ, zero, suc, _+_, _-_, _≤_, _<_, zero-le}
+use native.Mathlib.Nat.{sub-zero}
+use mathlib.Core.Path.{_≡_, refl, sym, ap, _∙_}
+use mathlib.Core.List.{List}
+use native.Mathlib.Omega.{arith}
+use Rattle.bits.specs.declared.Refusal.{Refusal}
+use Rattle.bits.specs.Syntax.{Field}
+use Rattle.bits.specs.Reader.{Got, Read, read, stopped, got, refused, bind, over, Reader}
+use Rattle.bits.specs.Law.{Any, Reads}
+use Rattle.bits.specs.Many.{Times, Each, manyFields, many, folds}
+use Rattle.bits.proofs.Laws.{then, last, done}
+use Rattle.bits.proofs.Steps.{tail, group-stop}
+
+pub many-reads : {A : Type 0} {Z : ℕ → A → Type 0} {f : ℕ → A → List Field} {r : ℕ → Reader A} → (i n : ℕ) → ((j : ℕ) → Reads Any (Z j) (f j) (r j)) → Reads Any (Each Z i n) (manyFields f i n) (many i n r)
+unfolding many manyFields
+many-reads i zero law = done _ tt tt (λ b k y. refl)
+many-reads {A} {Z} {f} {r} i (suc n) law =
+    then (λ (b : Times (suc n) A). b .0) (law i) λ v.
+    last (λ (b : Times (suc n) A). b .1) (many-reads (i + 1) n law) (λ a. (tt, refl)) (λ a. refl) (λ b k. rw (← (k .1)))
+
+module _ {A S : Type 0} (f : S → A → S) (i j : ℕ) (r : ℕ → Reader A) (s : List ℕ) (p : ℕ) (st : S) where
+  -- a turn that reads
+  pub turn : (st′ : S) (e : ℕ) → got st′ e ≡ over (f st) (r i s p) → over (folds f (suc j) st) (many i (suc j) r s p) ≡ over (folds f j st′) (many (i + 1) j r s e)
+  unfolding many folds
+  turn st′ e h = go (r i s p) h
+    where
+      go : (x : Read A) → got st′ e ≡ over (f st) x
+          → over (folds f (suc j) st) (bind x (λ v n. bind (many (i + 1) j r s n) (λ vs q. read (v, vs) q))) ≡ over (folds f j st′) (many (i + 1) j r s e)
+      go (read a n) h =
+          let sa : st′ ≡ f st a = cc in
+          let ne : e ≡ n = cc in
+          rw (sa, ne) (sym (tail (folds f (suc j) st) (λ vs q. read (a, vs) q) (folds f j (f st a)) (many (i + 1) j r s n) _ refl (λ vs q. refl)))
+      go (stopped x) h = let z : _≡_ {A = ℕ} 0 1 = cc in absurd (omega arith)
+
+  -- a turn that does not
+  pub turn-stop : (x : Refusal) → refused x ≡ over (f st) (r i s p) → refused x ≡ over (folds f (suc j) st) (many i (suc j) r s p)
+  unfolding many folds
+  turn-stop x h = group-stop (f st) (r i s p) (folds f (suc j) st) (λ v n. bind (many (i + 1) j r s n) (λ vs q. read (v, vs) q)) x h
+
+abbrev through : {B C : Type 0} → (B → C) → Got B → Got C
+through g (got a p) = got (g a) p
+through g (refused e) = refused e
+
+through-over : {A B C : Type 0} (g : B → C) (f : A → B) (m : Read A) → through g (over f m) ≡ over (λ a. g (f a)) m
+through-over g f (read a p) = refl
+through-over g f (stopped e) = refl
+
+-- a loop that reads n of them and has done i: what is left to read, from p on with the state st, gives what the whole gives
+pub record Looped {A S : Type 0} (f : S → A → S) (n : ℕ) (r : ℕ → Reader A) (s : List ℕ) (p₀ : ℕ) (st₀ : S) (i p : ℕ) (st : S) : Type 0 where
+  pub within : i ≤ n
+  pub same : over (folds f n st₀) (many 0 n r s p₀) ≡ over (folds f (n - i) st) (many i (n - i) r s p)
+
+pub loop-start : {A S : Type 0} (f : S → A → S) (n : ℕ) (r : ℕ → Reader A) (s : List ℕ) (p : ℕ) (st : S) → Looped f n r s p st 0 p st
+loop-start f n r s p st = record { within = zero-le; same = rw sub-zero }
+
+module _ {A S : Type 0} {f : S → A → S} {n : ℕ} {r : ℕ → Reader A} {s : List ℕ} {p₀ : ℕ} {st₀ : S} {i p : ℕ} {st : S} (l : Looped f n r s p₀ st₀ i p st) where
+  pub loop-turn : {st′ : S} {e : ℕ} → i < n → got st′ e ≡ over (f st) (r i s p) → Looped f n r s p₀ st₀ (i + 1) e st′
+  loop-turn {st′} {e} h t =
+      let one : n - i ≡ suc (n - (i + 1)) = omega arith in
+      record { within = omega (arith, l .within); same = (rw one at (l .same)) ∙ turn f i (n - (i + 1)) r s p st st′ e t }
+
+  module _ {B : Type 0} (g : S → B) where
+    pub loop-stop : {x : Refusal} → i < n → refused x ≡ over (f st) (r i s p) → refused x ≡ over (λ v. g (folds f n st₀ v)) (many 0 n r s p₀)
+    loop-stop {x} h t =
+        let one : n - i ≡ suc (n - (i + 1)) = omega arith in
+        ap (through g) (turn-stop f i (n - (i + 1)) r s p st x t ∙ sym (rw one at (l .same))) ∙ through-over g (folds f n st₀) (many 0 n r s p₀)
+
+    pub loop-end : n ≤ i → got (g st) p ≡ over (λ v. g (folds f n st₀ v)) (many 0 n r s p₀)
+    unfolding many folds
+    loop-end h =
+        let none : n - i ≡ 0 = omega arith in
+        ap (through g) (sym (rw none at (l .same))) ∙ through-over g (folds f n st₀) (many 0 n r s p₀)

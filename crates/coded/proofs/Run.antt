@@ -1,0 +1,118 @@
+-- The law of a run of bits, and a loop that counts them.
+-- Assumes nothing.
+use Prim.Native.Nat.{ℕ, zero, suc, _+_, _-_, _≤_, _<_, zero-le, pred}
+use Prim.Native.String.{String}
+use mathlib.Core.Path.{_≡_, refl, sym, ap, _∙_}
+use mathlib.Core.Bool.{true, false}
+use mathlib.Core.List.{List, [], _∷_}
+use native.Mathlib.Nat.{sub-zero, zero-add}
+use native.Mathlib.Omega.{arith}
+use lib.Dec.{eqb}
+use borrow.Author.Tests.{eqb-true, eqb-false, eq-eqb, ne-eqb}
+use types.Run.{OneOf}
+use denote.Enum.Declared.{tagOf}
+use Rattle.bits.specs.declared.Bits.{Bits}
+use Rattle.bits.specs.declared.Bits.the-variants.{Value}
+use Rattle.bits.specs.declared.Cursor.{Cursor}
+use Rattle.bits.specs.declared.Refusal.the-variants.{PastEnd}
+use Rattle.bits.specs.Refusal.{item}
+use Rattle.bits.specs.Syntax.{fld}
+use Rattle.bits.specs.Read.{readBits}
+use Rattle.bits.specs.Reader.{Read, read, stopped, got, refused, pick, pickT, bind, over}
+use Rattle.bits.specs.Law.{Any, Reads}
+use Rattle.bits.proofs.Bits.{the-type}
+use Rattle.bits.proofs.Laws.{take-in, branch-in, last, respelt, done}
+use Rattle.bits.proofs.Steps.{value-read, short-read}
+use Rattle.coded.specs.Run.{runFields, readRun}
+
+module _ (x : String) (b : ℕ) (bit : b < 2) where
+  -- the first bit of a run of k
+  first : ℕ → ℕ
+  first zero = 1 - b
+  first (suc k) = b
+
+  -- the same fields, by the first of them
+  unrolled : (i n k : ℕ) → (fld (item x i) 1 (first k) ∷ pick (eqb (first k) b) (runFields x b (i + 1) n (pred k)) []) ≡ runFields x b i (suc n) k
+  unfolding runFields first
+  unrolled i n zero = rw (ne-eqb (1 - b) b (λ e. omega arith))
+  unrolled i n (suc k) = rw (eq-eqb b b refl)
+
+  few : (n k : ℕ) → pickT (eqb (first k) b) (pred k ≤ n) Unit → k ≤ suc n
+  unfolding first
+  few n zero y = omega arith
+  few n (suc k) y = omega (arith, rw (eq-eqb b b refl) at y)
+
+  less : (n k : ℕ) → k ≤ suc n → pickT (eqb (first k) b) (pred k ≤ n) Unit
+  unfolding first
+  less n zero y = rw (ne-eqb (1 - b) b (λ e. omega arith)) tt
+  less n (suc k) y = rw (eq-eqb b b refl) (omega arith)
+
+  -- what the first bit tells of the count
+  none-if : (k a : ℕ) → first k ≡ a → eqb a b ≡ false → k ≡ 0
+  unfolding first
+  none-if zero a e f = refl
+  none-if (suc k) a e f = absurd (eqb-false a b f (sym e))
+
+  some-if : (k a : ℕ) → first k ≡ a → eqb a b ≡ true → k ≡ suc (pred k)
+  unfolding first
+  some-if zero a e f = absurd (omega (arith, eqb-true a b f))
+  some-if (suc k) a e f = refl
+
+  -- a bit that isn't b is the other one
+  other : (a : ℕ) → a < 2 → eqb a b ≡ false → 1 - b ≡ a
+  other a l f = omega (arith, eqb-false a b f)
+
+  pub run-reads : (i n : ℕ) → Reads Any (λ k. k ≤ n) (runFields x b i n) (readRun x b i n)
+  unfolding readRun
+  run-reads i zero = unfold runFields in done _ tt (omega arith) (λ c k y. omega arith)
+  run-reads i (suc n) =
+      respelt (λ k u. unrolled i n k) (λ k u y. few n k y) (λ k u y. less n k y)
+      (take-in first λ a lt.
+      branch-in (eqb a b) (λ k. eqb (first k) b) (λ k u. rw (u .1))
+      (λ e. last (λ k. pred k) (run-reads (i + 1) n) (λ m. (tt, unfold first in sym (eqb-true a b e))) (λ m. refl) (λ k u. some-if k a (u .1) e))
+      (λ e. done _ (tt, unfold first in other a lt e) tt (λ k u y. none-if k a (u .1) e)))
+
+-- a loop that has counted k: what is left to read, from p on, and k more gives what the whole gives
+pub record Counted (x : String) (b n : ℕ) (s : List ℕ) (p₀ k p : ℕ) : Type 0 where
+  pub within : k ≤ n
+  pub same : over (λ a. a) (readRun x b 0 n s p₀) ≡ over (k +_) (readRun x b k (n - k) s p)
+
+plain : (m : Read ℕ) → over (λ a. a) m ≡ over (0 +_) m
+plain (read a p) = rw zero-add
+plain (stopped w) = refl
+
+pub counted-none : (x : String) (b n : ℕ) (s : List ℕ) (p : ℕ) → Counted x b n s p 0 p
+counted-none x b n s p = record { within = zero-le; same = rw sub-zero (plain (readRun x b 0 n s p)) }
+
+up : (k : ℕ) (m : Read ℕ) → over (k +_) (bind m (λ a q. read (suc a) q)) ≡ over ((k + 1) +_) m
+up k (read a p) = ap (λ x. got x p) (omega arith)
+up k (stopped w) = refl
+
+one-left : (n k : ℕ) → k < n → n - k ≡ suc (n - (k + 1))
+one-left n k h = omega arith
+
+module _ {x : String} {b n : ℕ} {s : List ℕ} {p₀ k p : ℕ} (l : Counted x b n s p₀ k p) where
+  module _ (h : k < n) (r : Bits) (e : r ≡ readBits s p 1) where
+    pub counted-more : {a : ℕ} {c : Cursor} → r ≡ Value a c → a ≡ b → Counted x b n s p₀ (k + 1) (c .at)
+    unfolding readRun
+    counted-more {a} {c} t ab = record {
+      within = omega arith;
+      same = (rw (one-left n k h, value-read (item x k) s p 1 e t tt, eq-eqb a b ab) at (l .same)) ∙ up k (readRun x b (k + 1) (n - (k + 1)) s (c .at));
+    }
+
+    pub counted-end : {a : ℕ} {c : Cursor} → r ≡ Value a c → (a ≡ b → ⊥) → got k (c .at) ≡ over (λ a. a) (readRun x b 0 n s p₀)
+    unfolding readRun
+    counted-end {a} {c} t nb =
+        let z : k + 0 ≡ k = omega arith in
+        sym (rw (one-left n k h, value-read (item x k) s p 1 e t tt, ne-eqb a b nb, z) at (l .same))
+
+    pub counted-short : OneOf (1 ∷ 2 ∷ []) (tagOf the-type r) → refused PastEnd ≡ over (λ a. a) (readRun x b 0 n s p₀)
+    unfolding readRun
+    counted-short o = sym (rw (one-left n k h, short-read (item x k) s p 1 r e o tt) at (l .same))
+
+  pub counted-full : n ≤ k → got k p ≡ over (λ a. a) (readRun x b 0 n s p₀)
+  unfolding readRun
+  counted-full h =
+      let none : n - k ≡ 0 = omega arith in
+      let z : k + 0 ≡ k = omega arith in
+      sym (rw (none, z) at (l .same))

@@ -1,0 +1,5 @@
+pub mod Signed
+pub mod Delta
+pub mod Prob
+pub mod Run
+pub mod Little

@@ -1,0 +1,26 @@
+-- A run of equal bits, at most so many, which the other bit ends unless it is full: found_ref (VP9 6.2.5) and increment_tile_cols_log2 (6.2.13).
+-- Assumes nothing.
+use Prim.Native.Nat.{ℕ, zero, suc, _+_, _-_}
+use Prim.Native.String.{String}
+use mathlib.Core.List.{List, [], _∷_}
+use lib.Dec.{eqb}
+use Rattle.bits.specs.Refusal.{item}
+use Rattle.bits.specs.Syntax.{Field, fld}
+use Rattle.bits.specs.Reader.{pick, Reader, give, _>>=_, field}
+
+-- spelling: k bits b, of at most n, the first of them number i of the name x
+unfoldable pub runFields : String → ℕ → ℕ → ℕ → ℕ → List Field
+runFields x b i zero k = []
+runFields x b i (suc n) zero = fld (item x i) 1 (1 - b) ∷ []
+runFields x b i (suc n) (suc k) = fld (item x i) 1 b ∷ runFields x b (i + 1) n k
+
+-- reading: how many there are
+unfoldable pub readRun : String → ℕ → ℕ → ℕ → Reader ℕ
+readRun x b i zero = give 0
+readRun x b i (suc n) = do
+  a ← field (item x i) 1
+  pick (eqb a b)
+      (do
+        k ← readRun x b (i + 1) n
+        give (suc k))
+      (give 0)

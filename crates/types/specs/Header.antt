@@ -1,0 +1,52 @@
+-- Header: the default, with depth 8 and the eight-tap filter, and else 0 or false.
+use mathlib.Core.Bool.{false}
+use lib.ListN.{replicate}
+use Rattle.types.specs.LoopFilterParams.{defaultFilter}
+use Rattle.types.specs.QuantizationParams.{defaultQuantization}
+use Rattle.types.specs.SegmentationParams.{defaultSegmentation}
+use Rattle.types.specs.declared.enums.BitDepth.the-variants.{Depth8}
+use Rattle.types.specs.declared.enums.ColorRange.the-variants.{StudioSwing}
+use Rattle.types.specs.declared.enums.ColorSpace.the-variants.{Unknown}
+use Rattle.types.specs.declared.enums.FrameType.the-variants.{KeyFrame}
+use Rattle.types.specs.declared.enums.InterpolationFilter.the-variants.{EightTap}
+use Rattle.types.specs.declared.enums.Profile.the-variants.{Profile0}
+use Rattle.types.specs.declared.header.Header.{Header}
+
+abbrev pub defaultHeader : Header
+defaultHeader =
+    record {
+      profile = Profile0;
+      «bit_depth» = Depth8;
+      «subsampling_x» = false;
+      «subsampling_y» = false;
+      «color_space» = Unknown;
+      «color_range» = StudioSwing;
+      «show_existing_frame» = false;
+      «frame_to_show_map_idx» = 0;
+      «frame_type» = KeyFrame;
+      «show_frame» = false;
+      «error_resilient_mode» = false;
+      width = 0;
+      height = 0;
+      «render_and_frame_size_different» = false;
+      «render_width» = 0;
+      «render_height» = 0;
+      «intra_only» = false;
+      «reset_frame_context» = 0;
+      «refresh_frame_flags» = 0;
+      «ref_frame_idx» = replicate 3 0;
+      «ref_frame_sign_bias» = replicate 4 0;
+      «allow_high_precision_mv» = false;
+      «interpolation_filter» = EightTap;
+      «refresh_frame_context» = false;
+      «frame_parallel_decoding_mode» = false;
+      «frame_context_idx» = 0;
+      lf = defaultFilter;
+      quant = defaultQuantization;
+      seg = defaultSegmentation;
+      «tile_cols_log2» = 0;
+      «tile_rows_log2» = 0;
+      lossless = false;
+      «header_size_in_bytes» = 0;
+      «uncompressed_header_size_in_bytes» = 0;
+    }

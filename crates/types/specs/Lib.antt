@@ -1,0 +1,15 @@
+pub mod Numbered
+pub mod BitDepth
+pub mod ColorRange
+pub mod ColorSpace
+pub mod FrameType
+pub mod InterpolationFilter
+pub mod Profile
+pub mod ReferenceFrameType
+pub mod SegLvl
+pub mod FrameSize
+pub mod LoopFilterParams
+pub mod QuantizationParams
+pub mod SegmentationParams
+pub mod Header
+pub mod ReaderState

@@ -1,0 +1,23 @@
+-- ReaderState: the fresh state, with depth 8, and else 0 or false, and sizes 0x0.
+use mathlib.Core.Bool.{false}
+use lib.ListN.{replicate}
+use Rattle.types.specs.FrameSize.{noSize}
+use Rattle.types.specs.LoopFilterParams.{defaultFilter}
+use Rattle.types.specs.SegmentationParams.{defaultSegmentation}
+use Rattle.types.specs.declared.enums.BitDepth.the-variants.{Depth8}
+use Rattle.types.specs.declared.enums.ColorRange.the-variants.{StudioSwing}
+use Rattle.types.specs.declared.enums.ColorSpace.the-variants.{Unknown}
+use Rattle.types.specs.declared.state.ReaderState.{ReaderState}
+
+abbrev pub freshState : ReaderState
+freshState =
+    record {
+      «bit_depth» = Depth8;
+      «subsampling_x» = false;
+      «subsampling_y» = false;
+      «color_space» = Unknown;
+      «color_range» = StudioSwing;
+      lf = defaultFilter;
+      seg = defaultSegmentation;
+      «reference_frame_sz» = replicate 8 noSize;
+    }

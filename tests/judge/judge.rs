@@ -1,0 +1,426 @@
+//! The Rust original as a judge: reads chunks, prints all it says about them.
+//! The format of the output is in README.md beside this file.
+
+// The sources are used as they are; what they don't use isn't ours to mend.
+#![allow(dead_code, unused_imports, clippy::all)]
+
+// `bitstream_utils` names the crate `log`; this crate stands in for it.
+extern crate self as log;
+
+#[macro_export]
+macro_rules! error {
+    ($($arg:tt)*) => { eprintln!($($arg)*) };
+}
+
+#[path = "bitstream_utils.rs"]
+mod bitstream_utils;
+
+mod codec {
+    // Stubs: `bitstream_utils` names these two types, the judge never uses them.
+    pub mod h264 {
+        pub mod parser {
+            pub use crate::stub::Nalu264 as Nalu;
+        }
+    }
+    pub mod h265 {
+        pub mod parser {
+            pub use crate::stub::Nalu265 as Nalu;
+        }
+    }
+    // Found by their default paths, codec/vp9/lookups.rs and codec/vp9/parser.rs.
+    pub mod vp9 {
+        pub mod lookups;
+        pub mod parser;
+    }
+}
+
+mod stub {
+    use std::borrow::Cow;
+    use std::io::Cursor;
+
+    // Two types, not one: each has its own `impl Iterator`.
+    pub struct Nalu264<'a> {
+        pub data: Cow<'a, [u8]>,
+    }
+    pub struct Nalu265<'a> {
+        pub data: Cow<'a, [u8]>,
+    }
+
+    impl<'a> Nalu264<'a> {
+        pub fn next(_: &mut Cursor<&'a [u8]>) -> Result<Self, String> {
+            Err(String::from("stub"))
+        }
+    }
+    impl<'a> Nalu265<'a> {
+        pub fn next(_: &mut Cursor<&'a [u8]>) -> Result<Self, String> {
+            Err(String::from("stub"))
+        }
+    }
+}
+
+use codec::vp9::parser::{FrameType, Header, Parser, Segmentation, MAX_SEGMENTS};
+use std::io::{self, BufRead, BufWriter, Read, Write};
+use std::panic::{catch_unwind, AssertUnwindSafe};
+
+type Segments = [Segmentation; MAX_SEGMENTS];
+
+/// One accepted frame: its place, its header and the segment records after it.
+struct Seen {
+    offset: usize,
+    size: usize,
+    header: Header,
+    segments: Segments,
+}
+
+enum Verdict {
+    Accepted(Vec<Seen>),
+    Error(String),
+    Panic,
+}
+
+/// All that is carried from chunk to chunk.
+#[derive(Default)]
+struct Memory {
+    parser: Parser,
+    segments: Segments,
+}
+
+/// Reads one chunk; may panic where the Rust does.
+fn read_chunk(parser: &mut Parser, segments: &mut Segments, chunk: &[u8]) -> Result<Vec<Seen>, String> {
+    let mut seen = Vec::new();
+    for frame in parser.parse_chunk(chunk)? {
+        // Offset and size are private; the lent part tells both.
+        let part = frame.as_ref();
+        let offset = part.as_ptr() as usize - chunk.as_ptr() as usize;
+        let size = part.len();
+        Segmentation::update_segmentation(segments, &frame.header);
+        seen.push(Seen { offset, size, segments: segments.clone(), header: frame.header });
+    }
+    Ok(seen)
+}
+
+/// Reads one chunk with the memory put back on an error or a panic.
+fn judge(memory: &mut Memory, chunk: &[u8]) -> Verdict {
+    let mut parser = memory.parser.clone();
+    let mut segments = memory.segments.clone();
+    let result = catch_unwind(AssertUnwindSafe(|| read_chunk(&mut parser, &mut segments, chunk)));
+    match result {
+        Ok(Ok(seen)) => {
+            memory.parser = parser;
+            memory.segments = segments;
+            Verdict::Accepted(seen)
+        }
+        Ok(Err(message)) => Verdict::Error(message),
+        Err(_) => Verdict::Panic,
+    }
+}
+
+#[derive(Clone, Copy, PartialEq)]
+enum Input {
+    Hex,
+    Ivf,
+}
+
+struct Options {
+    input: Input,
+    trace: bool,
+    records: bool,
+    state: bool,
+    file: Option<String>,
+}
+
+const USAGE: &str = "usage: judge [--brief | --quiet-state] (--hex | --ivf) [FILE]
+       judge --trace [FILE]
+FILE is - or left out for standard input; --trace takes an IVF file";
+
+fn read_options() -> Option<Options> {
+    let mut options =
+        Options { input: Input::Hex, trace: false, records: true, state: true, file: None };
+    for arg in std::env::args().skip(1) {
+        match arg.as_str() {
+            "--hex" => options.input = Input::Hex,
+            "--ivf" => options.input = Input::Ivf,
+            "--trace" => {
+                options.trace = true;
+                options.input = Input::Ivf;
+            }
+            "--brief" => {
+                options.records = false;
+                options.state = false;
+            }
+            "--quiet-state" => options.state = false,
+            "-" => {}
+            _ if arg.starts_with("--") || options.file.is_some() => return None,
+            _ => options.file = Some(arg),
+        }
+    }
+    Some(options)
+}
+
+fn print_records(out: &mut impl Write, seen: &Seen) -> io::Result<()> {
+    writeln!(out, "  {:?}", seen.header)?;
+    for (i, record) in seen.segments.iter().enumerate() {
+        writeln!(out, "  seg {} {:?}", i, record)?;
+    }
+    Ok(())
+}
+
+/// Prints one chunk in the judge's own form.
+fn print_chunk(
+    out: &mut impl Write,
+    options: &Options,
+    number: u64,
+    verdict: &Verdict,
+    memory: &Memory,
+) -> io::Result<()> {
+    match verdict {
+        Verdict::Accepted(frames) => {
+            writeln!(out, "chunk {} accepted {}", number, frames.len())?;
+            for (i, seen) in frames.iter().enumerate() {
+                writeln!(out, "frame {} {} {}", i, seen.offset, seen.size)?;
+                if options.records {
+                    print_records(out, seen)?;
+                }
+            }
+        }
+        Verdict::Error(message) => writeln!(out, "chunk {} error {}", number, message)?,
+        Verdict::Panic => writeln!(out, "chunk {} panic", number)?,
+    }
+    if options.state {
+        writeln!(out, "state {:?}", memory.parser)?;
+    }
+    Ok(())
+}
+
+fn kind(header: &Header) -> &'static str {
+    if header.show_existing_frame {
+        "show"
+    } else if header.frame_type == FrameType::KeyFrame {
+        "key"
+    } else if header.intra_only {
+        "intra"
+    } else {
+        "inter"
+    }
+}
+
+/// Prints one accepted frame as the long form of the listing has it.
+fn print_listed(out: &mut impl Write, chunk: u64, number: usize, seen: &Seen) -> io::Result<()> {
+    let header = &seen.header;
+    writeln!(
+        out,
+        "{} {} {} {} {} {} {} {} {}",
+        chunk,
+        number,
+        kind(header),
+        seen.offset,
+        seen.size,
+        header.width,
+        header.height,
+        header.refresh_frame_flags,
+        header.uncompressed_header_size_in_bytes
+    )?;
+    print_records(out, seen)
+}
+
+/// How an IVF file goes on at a place.
+enum Record<'a> {
+    Data(&'a [u8]),
+    End,
+    Cut,
+}
+
+const FILE_HEADER: usize = 32;
+const RECORD_HEADER: usize = 12;
+/// The listing refuses records over this with 9.
+const LARGEST_RECORD: usize = 65536;
+
+fn is_ivf(file: &[u8]) -> bool {
+    file.len() >= FILE_HEADER
+        && &file[0..4] == b"DKIF"
+        && file[6..8] == [32, 0]
+        && &file[8..12] == b"VP90"
+}
+
+/// The record at `place`. Read here and not by `IvfIterator`, which panics on a cut record.
+fn record_at(file: &[u8], place: usize) -> Record<'_> {
+    let rest = &file[place..];
+    if rest.is_empty() {
+        return Record::End;
+    }
+    if rest.len() < RECORD_HEADER {
+        return Record::Cut;
+    }
+    let length = u32::from_le_bytes([rest[0], rest[1], rest[2], rest[3]]) as usize;
+    match rest[RECORD_HEADER..].get(..length) {
+        Some(data) => Record::Data(data),
+        None => Record::Cut,
+    }
+}
+
+fn read_all(file: &Option<String>) -> io::Result<Vec<u8>> {
+    let mut bytes = Vec::new();
+    match file {
+        Some(name) => std::fs::File::open(name)?.read_to_end(&mut bytes)?,
+        None => io::stdin().lock().read_to_end(&mut bytes)?,
+    };
+    Ok(bytes)
+}
+
+/// Gives each record to `each`; tells whether the file's end is whole.
+fn walk_ivf(file: &[u8], mut each: impl FnMut(u64, &[u8]) -> io::Result<()>) -> io::Result<bool> {
+    let mut place = FILE_HEADER;
+    let mut number = 0;
+    loop {
+        match record_at(file, place) {
+            Record::End => return Ok(true),
+            Record::Cut => return Ok(false),
+            Record::Data(data) => {
+                each(number, data)?;
+                number += 1;
+                place += RECORD_HEADER + data.len();
+            }
+        }
+    }
+}
+
+fn run_ivf(options: &Options, out: &mut impl Write) -> io::Result<()> {
+    let file = read_all(&options.file)?;
+    if !is_ivf(&file) {
+        return writeln!(out, "file refused 7");
+    }
+    let mut memory = Memory::default();
+    let whole = walk_ivf(&file, |number, data| {
+        let verdict = judge(&mut memory, data);
+        print_chunk(out, options, number, &verdict, &memory)
+    })?;
+    if !whole {
+        writeln!(out, "file refused 8")?;
+    }
+    Ok(())
+}
+
+fn run_trace(options: &Options, out: &mut impl Write) -> io::Result<()> {
+    let file = read_all(&options.file)?;
+    if !is_ivf(&file) {
+        return writeln!(out, "file refused 7");
+    }
+    writeln!(out, "chunk frame kind at size width height refresh hdr")?;
+    let mut memory = Memory::default();
+    let mut chunks = 0u64;
+    let mut refused = 0u64;
+    let whole = walk_ivf(&file, |number, data| {
+        chunks += 1;
+        if data.len() > LARGEST_RECORD {
+            refused += 1;
+            return writeln!(out, "{} refused 9 frame 0", number);
+        }
+        match judge(&mut memory, data) {
+            Verdict::Accepted(frames) => {
+                for (i, seen) in frames.iter().enumerate() {
+                    print_listed(out, number, i, seen)?;
+                }
+                Ok(())
+            }
+            // The Rust has no numbers, so neither is known here.
+            _ => {
+                refused += 1;
+                writeln!(out, "{} refused ? frame ?", number)
+            }
+        }
+    })?;
+    if !whole {
+        writeln!(out, "file refused 8")?;
+    }
+    writeln!(out, "{} chunks {} refused", chunks, refused)
+}
+
+fn hex_digit(byte: u8) -> Option<u8> {
+    match byte {
+        b'0'..=b'9' => Some(byte - b'0'),
+        b'a'..=b'f' => Some(byte - b'a' + 10),
+        b'A'..=b'F' => Some(byte - b'A' + 10),
+        _ => None,
+    }
+}
+
+/// Reads a line of hex digit pairs, blanks between pairs allowed, into `chunk`.
+fn hex_line(line: &[u8], chunk: &mut Vec<u8>) -> Option<()> {
+    chunk.clear();
+    let mut i = 0;
+    while i < line.len() {
+        if line[i] == b' ' || line[i] == b'\t' {
+            i += 1;
+            continue;
+        }
+        let high = hex_digit(line[i])?;
+        let low = hex_digit(*line.get(i + 1)?)?;
+        chunk.push(high << 4 | low);
+        i += 2;
+    }
+    Some(())
+}
+
+fn trim_end(line: &[u8]) -> &[u8] {
+    let end = line.iter().rposition(|b| !b.is_ascii_whitespace()).map_or(0, |i| i + 1);
+    &line[..end]
+}
+
+fn run_hex(options: &Options, out: &mut impl Write) -> io::Result<()> {
+    let mut input: Box<dyn BufRead> = match &options.file {
+        Some(name) => Box::new(io::BufReader::with_capacity(1 << 16, std::fs::File::open(name)?)),
+        None => Box::new(io::stdin().lock()),
+    };
+    let mut memory = Memory::default();
+    let mut number = 0u64;
+    let mut line_number = 0u64;
+    let mut line = Vec::new();
+    let mut chunk = Vec::new();
+    loop {
+        line.clear();
+        if input.read_until(b'\n', &mut line)? == 0 {
+            return Ok(());
+        }
+        line_number += 1;
+        let text = trim_end(&line);
+        if text.first() == Some(&b'#') {
+            continue;
+        }
+        if text == b"fresh" {
+            memory = Memory::default();
+            number = 0;
+            writeln!(out, "fresh")?;
+            continue;
+        }
+        if hex_line(text, &mut chunk).is_none() {
+            let message = format!("line {} is not hex", line_number);
+            return Err(io::Error::new(io::ErrorKind::InvalidData, message));
+        }
+        let verdict = judge(&mut memory, &chunk);
+        print_chunk(out, options, number, &verdict, &memory)?;
+        number += 1;
+    }
+}
+
+fn run(options: &Options) -> io::Result<()> {
+    let mut out = BufWriter::with_capacity(1 << 16, io::stdout().lock());
+    match (options.trace, options.input) {
+        (true, _) => run_trace(options, &mut out)?,
+        (false, Input::Ivf) => run_ivf(options, &mut out)?,
+        (false, Input::Hex) => run_hex(options, &mut out)?,
+    }
+    out.flush()
+}
+
+fn main() {
+    let Some(options) = read_options() else {
+        eprintln!("{USAGE}");
+        std::process::exit(2);
+    };
+    // Panics are verdicts here, so they say nothing themselves.
+    std::panic::set_hook(Box::new(|_| {}));
+    if let Err(error) = run(&options) {
+        eprintln!("judge: {error}");
+        std::process::exit(2);
+    }
+}
