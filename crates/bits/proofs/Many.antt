@@ -7,11 +7,11 @@ use mathlib.Core.List.{List}
 use native.Mathlib.Omega.{arith}
 use Rattle.bits.specs.declared.Refusal.{Refusal}
 use Rattle.bits.specs.Syntax.{Field}
-use Rattle.bits.specs.Reader.{Got, Read, read, stopped, got, refused, bind, over, Reader}
+use Rattle.bits.specs.Reader.{Got, Read, read, stopped, got, refused, bind, over, alter, Reader}
 use Rattle.bits.specs.Law.{Any, Reads}
 use Rattle.bits.specs.Many.{Times, Each, manyFields, many, folds}
 use Rattle.bits.proofs.Laws.{then, last, done}
-use Rattle.bits.proofs.Steps.{tail, group-stop}
+use Rattle.bits.proofs.Steps.{tail, group-stop, alter-over}
 
 pub many-reads : {A : Type 0} {Z : ℕ → A → Type 0} {f : ℕ → A → List Field} {r : ℕ → Reader A} → (i n : ℕ) → ((j : ℕ) → Reads Any (Z j) (f j) (r j)) → Reads Any (Each Z i n) (manyFields f i n) (many i n r)
 unfolding many manyFields
@@ -39,14 +39,6 @@ module _ {A S : Type 0} (f : S → A → S) (i j : ℕ) (r : ℕ → Reader A) (
   unfolding many folds
   turn-stop x h = group-stop (f st) (r i s p) (folds f (suc j) st) (λ v n. bind (many (i + 1) j r s n) (λ vs q. read (v, vs) q)) x h
 
-abbrev through : {B C : Type 0} → (B → C) → Got B → Got C
-through g (got a p) = got (g a) p
-through g (refused e) = refused e
-
-through-over : {A B C : Type 0} (g : B → C) (f : A → B) (m : Read A) → through g (over f m) ≡ over (λ a. g (f a)) m
-through-over g f (read a p) = refl
-through-over g f (stopped e) = refl
-
 -- a loop that reads n of them and has done i: what is left to read, from p on with the state st, gives what the whole gives
 pub record Looped {A S : Type 0} (f : S → A → S) (n : ℕ) (r : ℕ → Reader A) (s : List ℕ) (p₀ : ℕ) (st₀ : S) (i p : ℕ) (st : S) : Type 0 where
   pub within : i ≤ n
@@ -65,10 +57,10 @@ module _ {A S : Type 0} {f : S → A → S} {n : ℕ} {r : ℕ → Reader A} {s 
     pub loop-stop : {x : Refusal} → i < n → refused x ≡ over (f st) (r i s p) → refused x ≡ over (λ v. g (folds f n st₀ v)) (many 0 n r s p₀)
     loop-stop {x} h t =
         let one : n - i ≡ suc (n - (i + 1)) = omega arith in
-        ap (through g) (turn-stop f i (n - (i + 1)) r s p st x t ∙ sym (rw one at (l .same))) ∙ through-over g (folds f n st₀) (many 0 n r s p₀)
+        ap (alter g) (turn-stop f i (n - (i + 1)) r s p st x t ∙ sym (rw one at (l .same))) ∙ alter-over g (folds f n st₀) (many 0 n r s p₀)
 
     pub loop-end : n ≤ i → got (g st) p ≡ over (λ v. g (folds f n st₀ v)) (many 0 n r s p₀)
     unfolding many folds
     loop-end h =
         let none : n - i ≡ 0 = omega arith in
-        ap (through g) (sym (rw none at (l .same))) ∙ through-over g (folds f n st₀) (many 0 n r s p₀)
+        ap (alter g) (sym (rw none at (l .same))) ∙ alter-over g (folds f n st₀) (many 0 n r s p₀)

@@ -23,7 +23,7 @@ use Rattle.bits.specs.Bit.{number, fits}
 use Rattle.bits.specs.Refusal.{Mark, markRefusal, Name, the}
 use Rattle.bits.specs.Syntax.{cutAt}
 use Rattle.bits.specs.Read.{readBits, readBitsIf}
-use Rattle.bits.specs.Reader.{Got, Read, read, stopped, got, refused, pick, bind, over, viewNext, Reader, field, must, fieldIf, groupIf}
+use Rattle.bits.specs.Reader.{Got, Read, read, stopped, got, refused, pick, bind, over, alter, viewNext, Reader, field, must, fieldIf, groupIf}
 use Rattle.bits.proofs.Laws.{pow-pos, field-reads, field-got, field-cut}
 use Rattle.bits.proofs.Bits.{the-type}
 
@@ -148,6 +148,11 @@ gave a n c e h = rw h at e
 
 pub lacked : {A : Type 0} {x : Got A} (a : A) (n : Next) (u : Refusal) → viewNext a n ≡ x → n ≡ Refused u → refused u ≡ x
 lacked a n u e h = rw h at e
+
+-- an answer whose value is altered
+pub alter-over : {A B C : Type 0} (g : B → C) (f : A → B) (m : Read A) → alter g (over f m) ≡ over (λ a. g (f a)) m
+alter-over g f (read a p) = refl
+alter-over g f (stopped e) = refl
 
 -- a call of a group whose answer is handed on
 pub tail : {A B C : Type 0} (f : B → C) (k : A → ℕ → Read B) (g : A → C) (m : Read A) (x : Got C) → x ≡ over g m → ((a : A) (p : ℕ) → got (g a) p ≡ over f (k a p)) → x ≡ over f (bind m k)

@@ -69,3 +69,8 @@ over f (stopped w) = refused (w .refusal)
 abbrev pub viewNext : {A : Type 0} → A → Next → Got A
 viewNext a (At c) = got a (c .at)
 viewNext a (Refused e) = refused e
+
+-- an answer with what g makes of its value
+abbrev pub alter : {A B : Type 0} → (A → B) → Got A → Got B
+alter g (got a p) = got (g a) p
+alter g (refused e) = refused e

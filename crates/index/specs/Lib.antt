@@ -1,0 +1,4 @@
+pub mod Layout
+pub mod Split
+pub mod Table
+pub mod Spelling

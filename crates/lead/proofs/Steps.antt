@@ -1,0 +1,56 @@
+-- What a caller of `parse_shot` and of `parse_lead` learns, as steps along its own reading.
+-- Assumes nothing.
+use Prim.Native.Nat.{ℕ}
+use mathlib.Core.Path.{_≡_}
+use mathlib.Core.List.{List}
+use Rattle.bits.specs.declared.Cursor.{Cursor}
+use Rattle.bits.specs.declared.Refusal.{Refusal}
+use Rattle.bits.specs.Reader.{Got, Read, got, refused, bind, over}
+use Rattle.bits.proofs.Steps.{group-step, group-stop}
+use Rattle.types.specs.declared.size.FrameSize.{FrameSize}
+use Rattle.start.specs.declared.Traits.{Traits}
+use Rattle.start.specs.declared.Context.{Context}
+use Rattle.start.specs.Traits.{TraitsValues, traitsOf}
+use Rattle.start.specs.Context.{ContextValues, contextOf}
+use Rattle.color.specs.declared.Color.{Color}
+use Rattle.lead.specs.declared.Shot.{Shot}
+use Rattle.lead.specs.declared.ShotRead.{ShotRead}
+use Rattle.lead.specs.declared.ShotRead.the-variants.{Value as Shoots, Refused as ShootsNot}
+use Rattle.lead.specs.declared.Lead.{Lead}
+use Rattle.lead.specs.declared.LeadRead.{LeadRead}
+use Rattle.lead.specs.declared.LeadRead.the-variants.{Value as Leads, Refused as LeadsNot}
+use Rattle.lead.specs.Shot.{ShotValues, readShot, shotOf, viewShot}
+use Rattle.lead.specs.Lead.{LeadValues, isKey, isShown, isResilient, readLead, leadOf, viewLead}
+
+-- the flag that a record of traits has is the values' one
+pub resilient-as : (t : Traits) (a : TraitsValues) → t ≡ traitsOf a → t .«error_resilient_mode» ≡ isResilient a
+unfolding traitsOf
+resilient-as t a e = rw e
+
+module _ {B D : Type 0} (s : List ℕ) (p : ℕ) (f : B → D) (profile : ℕ) (color : Color) (slots : List FrameSize) where
+  -- of a frame whose traits were read before
+  module _ (t : Traits) (v : TraitsValues) (tv : t ≡ traitsOf v) (r : ShotRead) (k : ShotValues → ℕ → Read B)
+      (e : viewShot r ≡ over (shotOf profile (t .key) color slots) (readShot profile (t .key) (t .«show_frame») (t .«error_resilient_mode») s p)) where
+    said : viewShot r ≡ over (shotOf profile (isKey v) color slots) (readShot profile (isKey v) (isShown v) (isResilient v) s p)
+    unfolding traitsOf
+    said = rw tv at e
+
+    pub shot-step : (x : Shot) (c : Cursor) (o : Got D) → r ≡ Shoots x c → ((a : ShotValues) → x ≡ shotOf profile (isKey v) color slots a → o ≡ over f (k a (c .at))) → o ≡ over f (bind (readShot profile (isKey v) (isShown v) (isResilient v) s p) k)
+    shot-step x c o h y = group-step (shotOf profile (isKey v) color slots) (readShot profile (isKey v) (isShown v) (isResilient v) s p) f k x (c .at) o (rw h at said) y
+
+    pub shot-stop : (u : Refusal) → r ≡ ShootsNot u → refused u ≡ over f (bind (readShot profile (isKey v) (isShown v) (isResilient v) s p) k)
+    shot-stop u h = group-stop (shotOf profile (isKey v) color slots) (readShot profile (isKey v) (isShown v) (isResilient v) s p) f k u (rw h at said)
+
+  module _ (r : LeadRead) (k : LeadValues → ℕ → Read B) (e : viewLead r ≡ over (leadOf profile color slots) (readLead profile s p)) where
+    pub lead-step : (x : Lead) (c : Cursor) (o : Got D) → r ≡ Leads x c → ((a : LeadValues) → x ≡ leadOf profile color slots a → o ≡ over f (k a (c .at))) → o ≡ over f (bind (readLead profile s p) k)
+    lead-step x c o h y = group-step (leadOf profile color slots) (readLead profile s p) f k x (c .at) o (rw h at e) y
+
+    pub lead-stop : (u : Refusal) → r ≡ LeadsNot u → refused u ≡ over f (bind (readLead profile s p) k)
+    lead-stop u h = group-stop (leadOf profile color slots) (readLead profile s p) f k u (rw h at e)
+
+-- the record that the code makes
+pub lead-read : (profile : ℕ) (color : Color) (slots : List FrameSize) (p : ℕ) (t : Traits) (h : Shot) (x : Context) (a : TraitsValues) (b : ShotValues) (d : ContextValues)
+    → t ≡ traitsOf a → h ≡ shotOf profile (isKey a) color slots b → x ≡ contextOf (isResilient a) d
+    → got (record { traits = t; shot = h; context = x }) p ≡ got (leadOf profile color slots (record { traits = a; shot = b; context = d })) p
+unfolding leadOf
+lead-read profile color slots p t h x a b d et eh ex = rw (et, eh, ex)

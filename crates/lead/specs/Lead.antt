@@ -1,0 +1,76 @@
+-- uncompressed_header() from frame_type to frame_context_idx (VP9 6.2).
+-- Assumes nothing.
+use Prim.Native.Nat.{ℕ}
+use mathlib.Core.Bool.{Bool, _||_}
+use mathlib.Core.List.{List, _++_}
+use lib.Dec.{eqb}
+use Rattle.bits.specs.Syntax.{Field, flag}
+use Rattle.bits.specs.Reader.{Got, got, refused, Reader, give, _>>=_}
+use Rattle.types.specs.declared.size.FrameSize.{FrameSize}
+use Rattle.start.specs.Traits.{TraitsValues, noTraits, traitsFields, readTraits, traitsOf}
+use Rattle.start.specs.Context.{ContextValues, noContext, contextFields, ContextLacks, readContext, contextOf}
+use Rattle.color.specs.declared.Color.{Color}
+use Rattle.lead.specs.Shot.{ShotValues, noShot, isIntraOnly, shotFields, ShotLacks, readShot, shotSize, shotOf}
+use Rattle.lead.specs.declared.Lead.{Lead}
+use Rattle.lead.specs.declared.LeadRead.{LeadRead}
+use Rattle.lead.specs.declared.LeadRead.the-variants.{Value, Refused}
+
+pub record LeadValues : Type 0 where
+  pub traits : TraitsValues
+  pub shot : ShotValues
+  pub context : ContextValues
+
+abbrev pub noLead : LeadValues
+noLead = record { traits = noTraits; shot = noShot; context = noContext }
+
+-- a key frame has type 0
+abbrev pub isKey : TraitsValues → Bool
+isKey t = eqb (t .frame-type) 0
+
+abbrev pub isShown : TraitsValues → Bool
+isShown t = flag (t .show-frame)
+
+abbrev pub isResilient : TraitsValues → Bool
+isResilient t = flag (t .error-resilient-mode)
+
+-- spelling, for a profile
+unfoldable pub leadFields : ℕ → LeadValues → List Field
+leadFields profile v =
+    traitsFields (v .traits)
+    ++ (shotFields profile (isKey (v .traits)) (isShown (v .traits)) (isResilient (v .traits)) (v .shot)
+    ++ contextFields (isResilient (v .traits)) (v .context))
+
+unfoldable pub LeadLacks : ℕ → LeadValues → Type 0
+LeadLacks profile v =
+    ShotLacks profile (isKey (v .traits)) (isShown (v .traits)) (isResilient (v .traits)) (v .shot)
+    × ContextLacks (isResilient (v .traits)) (v .context)
+
+-- reading
+unfoldable pub readLead : ℕ → Reader LeadValues
+readLead profile = do
+  t ← readTraits
+  h ← readShot profile (isKey t) (isShown t) (isResilient t)
+  x ← readContext (isResilient t)
+  give (record { traits = t; shot = h; context = x })
+
+-- the frame's size, from the remembered sizes
+abbrev pub frameSize : List FrameSize → LeadValues → FrameSize
+frameSize slots v = shotSize (isKey (v .traits)) slots (v .shot)
+
+-- an intra or error-resilient frame owes nothing to earlier ones: setup_past_independence()
+abbrev pub isIndependent : LeadValues → Bool
+isIndependent v = isKey (v .traits) || (isIntraOnly (v .shot) || isResilient (v .traits))
+
+-- record, from the remembered colour and sizes
+unfoldable pub leadOf : ℕ → Color → List FrameSize → LeadValues → Lead
+leadOf profile color slots v =
+    record {
+      traits = traitsOf (v .traits);
+      shot = shotOf profile (isKey (v .traits)) color slots (v .shot);
+      context = contextOf (isResilient (v .traits)) (v .context);
+    }
+
+-- the code's answer
+abbrev pub viewLead : LeadRead → Got Lead
+viewLead (Value a c) = got a (c .at)
+viewLead (Refused e) = refused e

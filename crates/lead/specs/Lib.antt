@@ -1,0 +1,2 @@
+pub mod Shot
+pub mod Lead

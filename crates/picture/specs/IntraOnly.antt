@@ -1,0 +1,46 @@
+-- The picture of an intra-only frame (VP9 6.2): sync code, colour unless the profile is 0, the slots to refresh, sizes.
+-- Assumes nothing.
+use Prim.Native.Nat.{ℕ}
+use mathlib.Core.List.{List, _∷_, _++_}
+use Rattle.bits.specs.Refusal.{the}
+use Rattle.bits.specs.Syntax.{Field, fld}
+use Rattle.bits.specs.Reader.{Reader, give, _>>=_, field}
+use Rattle.start.specs.Sync.{syncFields, readSync}
+use Rattle.color.specs.Color.{ColorValues, noColor}
+use Rattle.color.specs.Intra.{intraColorFields, IntraColorLacks, readIntraColor, intraColorOf}
+use Rattle.sizes.specs.Sizes.{SizesValues, noSizes, sizesFields, SizesLacks, readSizes, sizesOf}
+use Rattle.picture.specs.Picture.{intraPicture}
+use Rattle.picture.specs.declared.Picture.{Picture}
+
+pub record IntraOnlyValues : Type 0 where
+  pub frame-sync-code : ℕ
+  pub color : ColorValues
+  pub refresh-frame-flags : ℕ
+  pub sizes : SizesValues
+
+abbrev pub noIntraOnly : IntraOnlyValues
+noIntraOnly = record { frame-sync-code = 0; color = noColor; refresh-frame-flags = 0; sizes = noSizes }
+
+-- spelling, for a profile
+unfoldable pub intraOnlyFields : ℕ → IntraOnlyValues → List Field
+intraOnlyFields profile v =
+    syncFields (v .frame-sync-code)
+    ++ (intraColorFields profile (v .color)
+    ++ (fld (the "refresh_frame_flags") 8 (v .refresh-frame-flags)
+    ∷ sizesFields (v .sizes)))
+
+unfoldable pub IntraOnlyLacks : ℕ → IntraOnlyValues → Type 0
+IntraOnlyLacks profile v = IntraColorLacks profile (v .color) × SizesLacks (v .sizes)
+
+-- reading
+unfoldable pub readIntraOnly : ℕ → Reader IntraOnlyValues
+readIntraOnly profile = do
+  n ← readSync
+  c ← readIntraColor profile
+  r ← field (the "refresh_frame_flags") 8
+  z ← readSizes
+  give (record { frame-sync-code = n; color = c; refresh-frame-flags = r; sizes = z })
+
+-- record
+unfoldable pub intraOnlyOf : ℕ → IntraOnlyValues → Picture
+intraOnlyOf profile v = intraPicture (intraColorOf profile (v .color)) (v .refresh-frame-flags) (sizesOf (v .sizes))

@@ -1,0 +1,4 @@
+pub mod Filter
+pub mod LoopDeltas
+pub mod LoopFilter
+pub mod Quantizer

@@ -1,0 +1,101 @@
+-- The laws of the groups, and how many bits each takes at most.
+-- Assumes nothing.
+use Prim.Native.Nat.{ℕ, zero, suc, _+_, _≤_}
+use Prim.Native.String.{String}
+use mathlib.Core.Path.{refl}
+use mathlib.Core.Bool.{Bool, true, false}
+use native.Mathlib.Omega.{arith}
+use lib.Dec.{eqb}
+use Rattle.bits.specs.Refusal.{Name, the}
+use Rattle.bits.specs.Syntax.{flag, optional, size}
+use Rattle.bits.specs.Law.{Any, Reads}
+use Rattle.bits.proofs.Fields.{size-append}
+use Rattle.bits.proofs.Laws.{take, then, next, next-if, last, done, ends}
+use Rattle.coded.specs.Run.{runFields}
+use Rattle.coded.proofs.Run.{run-reads}
+use Rattle.sizes.specs.Size.{SizeValues, noSizeValues, sizeFields, readSize}
+use Rattle.sizes.specs.Render.{RenderValues, renderFields, RenderLacks, readRender}
+use Rattle.sizes.specs.Sizes.{SizesValues, sizesFields, SizesLacks, readSizes}
+use Rattle.sizes.specs.Refs.{RefValues, refFields, readRef, RefsValues, refsFields, readRefs}
+use Rattle.sizes.specs.SizeWithRefs.{SizeWithRefsValues, sizeWithRefsFields, SizeWithRefsLacks, readSizeWithRefs}
+
+pub size-reads : (x y : Name) → Reads Any Any (sizeFields x y) (readSize x y)
+unfolding sizeFields readSize
+size-reads x y =
+    take (λ (v : SizeValues). v .width-minus-1) λ w.
+    take (λ (v : SizeValues). v .height-minus-1) λ h.
+    done _ (search) tt (λ b k y. rw (← (k .1), ← (k .0 .1)))
+
+pub render-reads : Reads Any RenderLacks renderFields readRender
+unfolding renderFields RenderLacks readRender
+render-reads =
+    take (λ (v : RenderValues). v .render-and-frame-size-different) λ d.
+    ends (next-if (flag d) (λ (v : RenderValues). flag (v .render-and-frame-size-different)) (λ v k. rw (k .1)) noSizeValues (λ (v : RenderValues). v .size) (size-reads _ _) λ z.
+    done _ (search) tt (λ b k y. rw (← (k .1), ← (k .0 .1))))
+
+pub sizes-reads : Reads Any SizesLacks sizesFields readSizes
+unfolding sizesFields SizesLacks readSizes
+sizes-reads =
+    next (λ (v : SizesValues). v .size) (size-reads _ _) λ z.
+    last (λ (v : SizesValues). v .render) render-reads (λ a. (tt, refl)) (λ a. refl) (λ b k. rw (← (k .1)))
+
+pub ref-reads : (i : ℕ) → Reads Any Any (refFields i) (readRef i)
+unfolding refFields readRef
+ref-reads i =
+    take (λ (v : RefValues). v .ref-frame-idx) λ n.
+    take (λ (v : RefValues). v .ref-frame-sign-bias) λ b.
+    done _ (search) tt (λ b k y. rw (← (k .1), ← (k .0 .1)))
+
+pub refs-reads : Reads Any Any refsFields readRefs
+unfolding refsFields readRefs
+refs-reads =
+    next (λ (v : RefsValues). v .last) (ref-reads 0) λ l.
+    next (λ (v : RefsValues). v .golden) (ref-reads 1) λ g.
+    last (λ (v : RefsValues). v .altref) (ref-reads 2) (λ a. ((tt, refl), refl)) (λ a. refl) (λ b k. rw (← (k .1), ← (k .0 .1)))
+
+pub size-with-refs-reads : Reads Any SizeWithRefsLacks sizeWithRefsFields readSizeWithRefs
+unfolding sizeWithRefsFields SizeWithRefsLacks readSizeWithRefs
+size-with-refs-reads =
+    then (λ (v : SizeWithRefsValues). v .found-ref) (run-reads "found_ref" 0 (omega arith) 0 3) λ n.
+    next-if (eqb n 3) (λ (v : SizeWithRefsValues). eqb (v .found-ref) 3) (λ v k. rw (k .1)) noSizeValues (λ (v : SizeWithRefsValues). v .size) (size-reads _ _) λ z.
+    last (λ (v : SizeWithRefsValues). v .render) render-reads (λ a. ((tt, refl), refl)) (λ a. refl) (λ b k. rw (← (k .1), ← (k .0 .1)))
+
+-- a run of at most n bits takes at most n
+run-size : (x : String) (b i n k : ℕ) → size (runFields x b i n k) ≤ n
+unfolding runFields
+run-size x b i zero k = omega arith
+run-size x b i (suc n) zero = omega arith
+run-size x b i (suc n) (suc k) = omega (arith, run-size x b (i + 1) n k)
+
+pub size-size : (x y : Name) (v : SizeValues) → size (sizeFields x y v) ≤ 32
+unfolding sizeFields
+size-size x y v = omega arith
+
+-- also where it is there only sometimes
+size-if-size : (b : Bool) (x y : Name) (v : SizeValues) → size (optional b (sizeFields x y v)) ≤ 32
+size-if-size true x y v = size-size x y v
+size-if-size false x y v = omega arith
+
+pub render-size : (v : RenderValues) → size (renderFields v) ≤ 33
+unfolding renderFields
+render-size v = omega (arith, size-if-size (flag (v .render-and-frame-size-different)) (the "render_width_minus_1") (the "render_height_minus_1") (v .size))
+
+pub sizes-size : (v : SizesValues) → size (sizesFields v) ≤ 65
+unfolding sizesFields
+sizes-size v = simp size-append (omega (arith, size-size (the "frame_width_minus_1") (the "frame_height_minus_1") (v .size), render-size (v .render)))
+
+pub ref-size : (i : ℕ) (v : RefValues) → size (refFields i v) ≤ 4
+unfolding refFields
+ref-size i v = omega arith
+
+pub refs-size : (v : RefsValues) → size (refsFields v) ≤ 12
+unfolding refsFields
+refs-size v = simp size-append (omega (arith, ref-size 0 (v .last), ref-size 1 (v .golden), ref-size 2 (v .altref)))
+
+pub size-with-refs-size : (v : SizeWithRefsValues) → size (sizeWithRefsFields v) ≤ 68
+unfolding sizeWithRefsFields
+size-with-refs-size v =
+    let run = run-size "found_ref" 0 0 3 (v .found-ref) in
+    let own = size-if-size (eqb (v .found-ref) 3) (the "frame_width_minus_1") (the "frame_height_minus_1") (v .size) in
+    let render = render-size (v .render) in
+    simp size-append (omega arith)

@@ -1,0 +1,5 @@
+pub mod Laws
+pub mod Steps
+pub mod Records
+pub mod WithRefs
+pub mod Exact

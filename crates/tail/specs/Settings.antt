@@ -1,0 +1,82 @@
+-- The settings of filter, quantizer and segmentation (VP9 6.2).
+-- Assumes nothing.
+use Prim.Native.Nat.{ℕ}
+use mathlib.Core.Path.{_≡_}
+use mathlib.Core.Bool.{Bool}
+use mathlib.Core.List.{List, _++_}
+use Rattle.bits.specs.Syntax.{Field}
+use Rattle.bits.specs.Reader.{Got, pick, Reader, give, _>>=_, over, viewNext}
+use Rattle.bits.specs.declared.Next.{Next}
+use Rattle.bits.specs.declared.Next.the-variants.{At, Refused}
+use Rattle.types.specs.LoopFilterParams.{resetFilter}
+use Rattle.types.specs.QuantizationParams.{defaultQuantization}
+use Rattle.types.specs.SegmentationParams.{resetSegmentation}
+use Rattle.types.specs.declared.loop_filter.LoopFilterParams.{LoopFilterParams}
+use Rattle.types.specs.declared.segmentation.SegmentationParams.{SegmentationParams}
+use Rattle.settings.specs.LoopFilter.{LoopFilterValues, noLoopFilter, loopFilterFields, LoopFilterLacks, readLoopFilter, loopFilterOf}
+use Rattle.settings.specs.Quantizer.{QuantizerValues, noQuantizer, quantizerFields, QuantizerLacks, readQuantizer, quantizerOf}
+use Rattle.segmentation.specs.Map.{noMap}
+use Rattle.segmentation.specs.Data.{noData}
+use Rattle.segmentation.specs.Segmentation.{SegmentationValues, segmentationFields, SegmentationLacks, readSegmentation, segmentationOf}
+use Rattle.tail.specs.declared.Settings.{Settings}
+use Rattle.tail.specs.declared.SettingsRead.{SettingsRead}
+
+pub record SettingsValues : Type 0 where
+  pub loop-filter : LoopFilterValues
+  pub quantizer : QuantizerValues
+  pub segmentation : SegmentationValues
+
+abbrev pub noSettings : SettingsValues
+noSettings = record { loop-filter = noLoopFilter; quantizer = noQuantizer; segmentation = record { enabled = 0; map-part = noMap; data-part = noData } }
+
+-- spelling
+unfoldable pub settingsFields : SettingsValues → List Field
+settingsFields v = loopFilterFields (v .loop-filter) ++ (quantizerFields (v .quantizer) ++ segmentationFields (v .segmentation))
+
+unfoldable pub SettingsLacks : SettingsValues → Type 0
+SettingsLacks v = LoopFilterLacks (v .loop-filter) × (QuantizerLacks (v .quantizer) × SegmentationLacks (v .segmentation))
+
+-- reading
+unfoldable pub readSettings : Reader SettingsValues
+readSettings = do
+  l ← readLoopFilter
+  q ← readQuantizer
+  g ← readSegmentation
+  give (record { loop-filter = l; quantizer = q; segmentation = g })
+
+-- what an independent frame starts from, and any other: setup_past_independence()
+abbrev pub startingFilter : Bool → LoopFilterParams → LoopFilterParams
+startingFilter independent lf = pick independent (resetFilter lf) lf
+
+abbrev pub startingSegmentation : Bool → SegmentationParams → SegmentationParams
+startingSegmentation independent seg = pick independent (resetSegmentation seg) seg
+
+-- record, from the settings that a frame starts from
+unfoldable pub settingsOver : LoopFilterParams → SegmentationParams → SettingsValues → Settings
+settingsOver lf seg v =
+    record {
+      lf = loopFilterOf lf (v .loop-filter);
+      quant = quantizerOf (v .quantizer);
+      seg = segmentationOf seg (v .segmentation);
+    }
+
+-- and from the remembered ones
+abbrev pub settingsOf : Bool → LoopFilterParams → SegmentationParams → SettingsValues → Settings
+settingsOf independent lf seg = settingsOver (startingFilter independent lf) (startingSegmentation independent seg)
+
+-- what a refusal hands back
+abbrev pub keptSettings : LoopFilterParams → SegmentationParams → Settings
+keptSettings lf seg = record { lf = lf; quant = defaultQuantization; seg = seg }
+
+-- the code's answer
+abbrev pub viewSettings : SettingsRead → Got Settings
+viewSettings r = viewNext (r .settings) (r .next)
+
+-- a refusal hands back what the frame starts from
+abbrev pub Kept : LoopFilterParams → SegmentationParams → Settings → Next → Type 0
+Kept lf seg x (At c) = Unit
+Kept lf seg x (Refused e) = x ≡ keptSettings lf seg
+
+-- what is answered, from the settings that a frame starts from
+abbrev pub SettingsAre : List ℕ → ℕ → LoopFilterParams → SegmentationParams → SettingsRead → Type 0
+SettingsAre s p lf seg r = (viewSettings r ≡ over (settingsOver lf seg) (readSettings s p)) × Kept lf seg (r .settings) (r .next)

@@ -1,0 +1,34 @@
+-- Any two answers that meet the promise of a public function are one.
+-- Assumes nothing.
+use Prim.Native.Nat.{ℕ}
+use mathlib.Core.Path.{_≡_, sym, _∙_}
+use mathlib.Core.List.{List}
+use Rattle.bits.specs.Reader.{Got, got, refused, over}
+use Rattle.tiles.specs.declared.Tiles.{Tiles}
+use Rattle.tiles.specs.declared.TilesRead.{TilesRead}
+use Rattle.tiles.specs.declared.TilesRead.the-variants.{Value, Short}
+use Rattle.tiles.specs.Limits.{superblocks, least, most}
+use Rattle.tiles.specs.Tiles.{readTiles, tilesOf, viewTiles}
+
+pub one-superblocks : (width r q : ℕ) → r ≡ superblocks width → q ≡ superblocks width → r ≡ q
+one-superblocks width r q h k = h ∙ sym k
+
+pub one-least : (w r q : ℕ) → r ≡ least w → q ≡ least w → r ≡ q
+one-least w r q h k = h ∙ sym k
+
+pub one-most : (w r q : ℕ) → r ≡ most w → q ≡ most w → r ≡ q
+one-most w r q h k = h ∙ sym k
+
+-- the answer that an answer of the definition is
+asTiles : Got Tiles → TilesRead
+asTiles (got t p) = Value t (record { at = p })
+asTiles (refused e) = Short
+
+exact : (r : TilesRead) (g : Got Tiles) → viewTiles r ≡ g → r ≡ asTiles g
+unfolding asTiles
+exact (Value t c) g h = rw (← h)
+exact Short g h = rw (← h)
+
+pub one-tiles : (width : ℕ) (s : List ℕ) (p : ℕ) (r q : TilesRead)
+    → viewTiles r ≡ over (tilesOf width) (readTiles width s p) → viewTiles q ≡ over (tilesOf width) (readTiles width s p) → r ≡ q
+one-tiles width s p r q h k = exact r _ h ∙ sym (exact q _ k)

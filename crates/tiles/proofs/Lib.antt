@@ -1,0 +1,7 @@
+pub mod Limits
+pub mod Loops
+pub mod Records
+pub mod Laws
+pub mod Steps
+pub mod Exact
+pub mod Examples
