@@ -1,0 +1,5 @@
+pub mod Laws
+pub mod Outcomes
+pub mod Parts
+pub mod Whole
+pub mod Theorems

@@ -1,0 +1,37 @@
+-- What the reader answers to a frame: the record and the state of the values that fit, or the refusal and nothing changed.
+-- Assumes nothing.
+use Prim.Native.Nat.{ℕ}
+use mathlib.Core.List.{List}
+use Rattle.bits.specs.declared.Refusal.{Refusal}
+use Rattle.bits.specs.Refusal.{refusalNumber}
+use Rattle.bits.specs.Reader.{Read, read, stopped}
+use Rattle.types.specs.Header.{defaultHeader}
+use Rattle.types.specs.declared.header.Header.{Header}
+use Rattle.types.specs.declared.state.ReaderState.{ReaderState}
+use Rattle.header.specs.Header.{readHeader}
+use Rattle.header.specs.Record.{headerOf}
+use Rattle.header.specs.State.{stateAfter}
+use Rattle.header.specs.declared.HeaderRead.{HeaderRead}
+use Rattle.header.specs.declared.Verdict.{Verdict}
+use Rattle.header.specs.declared.Verdict.the-variants.{Accepted, Refused}
+
+-- document 01's number, and 0 for what is accepted
+abbrev pub verdictNumber : Verdict → ℕ
+verdictNumber Accepted = 0
+verdictNumber (Refused e) = refusalNumber e
+
+abbrev pub accepted : Header → ReaderState → HeaderRead
+accepted h st = record { verdict = Accepted; header = h; state = st }
+
+-- a refusal: the default header, and the state as it was
+abbrev pub refusedWith : ReaderState → Refusal → HeaderRead
+refusedWith st e = record { verdict = Refused e; header = defaultHeader; state = st }
+
+-- what a reading comes to: f makes an answer of its value and the place past it
+abbrev pub outcome : {A : Type 0} → ReaderState → (A → ℕ → HeaderRead) → Read A → HeaderRead
+outcome st f (read a p) = f a p
+outcome st f (stopped w) = refusedWith st (w .refusal)
+
+-- the answer to a frame's bytes under a state
+unfoldable pub parsed : List ℕ → ReaderState → HeaderRead
+parsed s st = outcome st (λ v p. accepted (headerOf st v) (stateAfter st v)) (readHeader (st .«reference_frame_sz») s 0)

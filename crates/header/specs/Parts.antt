@@ -1,0 +1,30 @@
+-- What the code answers part by part: the end of a header, its settings and its end, and the whole of a frame.
+-- Assumes nothing.
+use Prim.Native.Nat.{ℕ, min}
+use mathlib.Core.List.{List}
+use Rattle.types.specs.declared.state.ReaderState.{ReaderState}
+use Rattle.lead.specs.declared.Lead.{Lead}
+use Rattle.lead.specs.Lead.{readLead, leadOf}
+use Rattle.tail.specs.declared.Settings.{Settings}
+use Rattle.tail.specs.Settings.{readSettings, settingsOf}
+use Rattle.tail.specs.Closing.{readClosing, closingOf}
+use Rattle.header.specs.declared.HeaderRead.{HeaderRead}
+use Rattle.header.specs.Record.{rememberedColor, lengthOf, independent, frameHeader}
+use Rattle.header.specs.State.{frameState}
+use Rattle.header.specs.Answer.{accepted, outcome}
+
+-- a length, as far as 16 bits hold it
+abbrev pub cutLength : ℕ → ℕ
+cutLength n = min (lengthOf n) 65535
+
+abbrev pub widthOf : Lead → ℕ
+widthOf l = l .shot .picture .sizes .frame .width
+
+abbrev pub finished : ReaderState → ℕ → Lead → Settings → List ℕ → ℕ → HeaderRead
+finished st profile l g s p = outcome st (λ v q. accepted (frameHeader profile l g (closingOf (widthOf l) v) (cutLength q)) (frameState st profile l g)) (readClosing (widthOf l) s p)
+
+abbrev pub settled : ReaderState → ℕ → Lead → List ℕ → ℕ → HeaderRead
+settled st profile l s p = outcome st (λ v q. finished st profile l (settingsOf (independent l) (st .lf) (st .seg) v) s q) (readSettings s p)
+
+abbrev pub framed : ReaderState → ℕ → List ℕ → ℕ → HeaderRead
+framed st profile s p = outcome st (λ v q. settled st profile (leadOf profile (rememberedColor st) (st .«reference_frame_sz») v) s q) (readLead profile s p)
