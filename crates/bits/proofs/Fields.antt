@@ -27,9 +27,12 @@ size-append (f ∷ fs) gs = rw (size-append fs gs, add-assoc)
 pub size-join : (fs gs : List Field) (m n : ℕ) → size fs ≤ m → size gs ≤ n → size (fs ++ gs) ≤ m + n
 size-join fs gs m n h k = omega (arith, size-append fs gs)
 
+pub optional-size : (b : Bool) (fs : List Field) → size (optional b fs) ≤ size fs
+optional-size true fs = omega arith
+optional-size false fs = omega arith
+
 pub size-optional : (b : Bool) (fs : List Field) (n : ℕ) → size fs ≤ n → size (optional b fs) ≤ n
-size-optional true fs n h = h
-size-optional false fs n h = omega arith
+size-optional b fs n h = omega (arith, optional-size b fs)
 
 pub size-if : (b : Bool) (x : Name) (w n : ℕ) → size (optional b (fld x w n ∷ [])) ≤ w
 size-if b x w n = size-optional b (fld x w n ∷ []) w (omega arith)

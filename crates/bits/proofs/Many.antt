@@ -1,15 +1,16 @@
--- The law of a syntax that is repeated, and the steps of a loop that reads it.
+-- The law of a syntax that is repeated, how many bits it can have, and the steps of a loop that reads it.
 -- Assumes nothing.
-use Prim.Native.Nat.{ℕ, zero, suc, _+_, _-_, _≤_, _<_, zero-le}
+use Prim.Native.Nat.{ℕ, zero, suc, _+_, _-_, _≤_, _<_, zero-le, _*_}
 use native.Mathlib.Nat.{sub-zero}
 use mathlib.Core.Path.{_≡_, refl, sym, ap, _∙_}
 use mathlib.Core.List.{List}
 use native.Mathlib.Omega.{arith}
 use Rattle.bits.specs.declared.Refusal.{Refusal}
-use Rattle.bits.specs.Syntax.{Field}
-use Rattle.bits.specs.Reader.{Got, Read, read, stopped, got, refused, bind, over, alter, Reader}
+use Rattle.bits.specs.Syntax.{Field, size}
+use Rattle.bits.specs.Reader.{Read, read, stopped, got, refused, bind, over, alter, Reader}
 use Rattle.bits.specs.Law.{Any, Reads}
 use Rattle.bits.specs.Many.{Times, Each, manyFields, many, folds}
+use Rattle.bits.proofs.Fields.{size-append}
 use Rattle.bits.proofs.Laws.{then, last, done}
 use Rattle.bits.proofs.Steps.{tail, group-stop, alter-over}
 
@@ -19,6 +20,11 @@ many-reads i zero law = done _ tt tt (λ b k y. refl)
 many-reads {A} {Z} {f} {r} i (suc n) law =
     then (λ (b : Times (suc n) A). b .0) (law i) λ v.
     last (λ (b : Times (suc n) A). b .1) (many-reads (i + 1) n law) (λ a. (tt, refl)) (λ a. refl) (λ b k. rw (← (k .1)))
+
+pub many-size : {A : Type 0} (f : ℕ → A → List Field) (m : ℕ) → ((i : ℕ) (a : A) → size (f i a) ≤ m) → (i n : ℕ) (v : Times n A) → size (manyFields f i n v) ≤ n * m
+unfolding manyFields
+many-size f m each i zero v = zero-le
+many-size f m each i (suc n) v = rw size-append (omega (arith, each i (v .0), many-size f m each (i + 1) n (v .1)))
 
 module _ {A S : Type 0} (f : S → A → S) (i j : ℕ) (r : ℕ → Reader A) (s : List ℕ) (p : ℕ) (st : S) where
   -- a turn that reads

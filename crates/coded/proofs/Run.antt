@@ -16,7 +16,7 @@ use Rattle.bits.specs.declared.Bits.the-variants.{Value}
 use Rattle.bits.specs.declared.Cursor.{Cursor}
 use Rattle.bits.specs.declared.Refusal.the-variants.{PastEnd}
 use Rattle.bits.specs.Refusal.{item}
-use Rattle.bits.specs.Syntax.{fld}
+use Rattle.bits.specs.Syntax.{fld, size}
 use Rattle.bits.specs.Read.{readBits}
 use Rattle.bits.specs.Reader.{Read, read, stopped, got, refused, pick, pickT, bind, over}
 use Rattle.bits.specs.Law.{Any, Reads}
@@ -71,6 +71,13 @@ module _ (x : String) (b : ℕ) (bit : b < 2) where
       branch-in (eqb a b) (λ k. eqb (first k) b) (λ k u. rw (u .1))
       (λ e. last (λ k. pred k) (run-reads (i + 1) n) (λ m. (tt, unfold first in sym (eqb-true a b e))) (λ m. refl) (λ k u. some-if k a (u .1) e))
       (λ e. done _ (tt, unfold first in other a lt e) tt (λ k u y. none-if k a (u .1) e)))
+
+-- a run of at most n bits takes at most n
+pub run-size : (x : String) (b i n k : ℕ) → size (runFields x b i n k) ≤ n
+unfolding runFields
+run-size x b i zero k = omega arith
+run-size x b i (suc n) zero = omega arith
+run-size x b i (suc n) (suc k) = omega (arith, run-size x b (i + 1) n k)
 
 -- a loop that has counted k: what is left to read, from p on, and k more gives what the whole gives
 pub record Counted (x : String) (b n : ℕ) (s : List ℕ) (p₀ k p : ℕ) : Type 0 where

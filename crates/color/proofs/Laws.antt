@@ -5,11 +5,11 @@ use mathlib.Core.Path.{_≡_, refl}
 use mathlib.Core.Bool.{Bool, true, false, not}
 use mathlib.Core.List.{List, [], _∷_, _++_}
 use native.Mathlib.Omega.{arith}
-use Rattle.bits.specs.Refusal.{Name}
+use Rattle.bits.specs.Refusal.{Name, the}
 use Rattle.bits.specs.Syntax.{Field, fld, optional, Coded, Given, size}
 use Rattle.bits.specs.Reader.{pick, Reader, give, _>>=_, groupIf, fieldIf}
 use Rattle.bits.specs.Law.{Any, Reads}
-use Rattle.bits.proofs.Fields.{size-append}
+use Rattle.bits.proofs.Fields.{size-append, size-if, size-optional}
 use Rattle.bits.proofs.Laws.{take, take-if, last, done, ends, respelt}
 use Rattle.color.specs.Sampling.{SamplingValues, srgb, sampled, chroma, samplingFields, SamplingLacks, readSampling}
 use Rattle.color.specs.Color.{ColorValues, noColor, deep, colorFields, ColorLacks, readColor}
@@ -45,26 +45,24 @@ intra-color-reads profile = go (colored profile)
     go true = color-reads profile
     go false = done noColor tt refl (λ v k y. y)
 
--- how many bits fields have that are there only sometimes
-size-if : (b : Bool) (fs : List Field) → size (optional b fs) ≡ pick b (size fs) 0
-size-if true fs = refl
-size-if false fs = refl
-
-at-most : (b : Bool) (n : ℕ) → pick b n 0 ≤ n
-at-most true n = omega arith
-at-most false n = omega arith
-
+-- how many bits they have at most
 pub sampling-size : (profile space : ℕ) (v : SamplingValues) → size (samplingFields profile space v) ≤ 4
 unfolding samplingFields
 sampling-size profile space v =
-    simp (size-append, size-if) (omega (arith, at-most (not (srgb space)) 1, at-most (chroma profile space) 1, at-most (sampled profile) 1))
+    simp size-append
+    (omega (
+      arith,
+      size-if (not (srgb space)) (the "color_range") 1 (v .color-range),
+      size-if (chroma profile space) (the "subsampling_x") 1 (v .subsampling-x),
+      size-if (chroma profile space) (the "subsampling_y") 1 (v .subsampling-y),
+      size-if (sampled profile) (the "reserved_zero") 1 (v .reserved-zero),
+    ))
 
 pub color-size : (profile : ℕ) (v : ColorValues) → size (colorFields profile v) ≤ 8
 unfolding colorFields
 color-size profile v =
-    simp (size-append, size-if) (omega (arith, at-most (deep profile) 1, sampling-size profile (v .color-space) (v .sampling)))
+    simp size-append (omega (arith, size-if (deep profile) (the "ten_or_twelve_bit") 1 (v .ten-or-twelve-bit), sampling-size profile (v .color-space) (v .sampling)))
 
 pub intra-color-size : (profile : ℕ) (v : ColorValues) → size (intraColorFields profile v) ≤ 8
 unfolding intraColorFields
-intra-color-size profile v =
-    simp size-if (omega (arith, at-most (colored profile) (size (colorFields profile v)), color-size profile v))
+intra-color-size profile v = size-optional (colored profile) (colorFields profile v) 8 (color-size profile v)

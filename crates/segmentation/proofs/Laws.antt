@@ -1,19 +1,19 @@
 -- The laws of a feature, of all features, of the probabilities, of the two parts and of the whole.
 -- Assumes nothing.
-use Prim.Native.Nat.{ℕ, zero, suc, _+_, _*_, _≤_, zero-le}
+use Prim.Native.Nat.{ℕ, _*_, _≤_}
 use Prim.Native.String.{String}
-use mathlib.Core.Bool.{Bool, true, false, _&&_}
-use mathlib.Core.List.{List, [], _∷_}
+use mathlib.Core.Bool.{_&&_}
+use mathlib.Core.List.{[], _∷_}
 use native.Mathlib.Omega.{arith}
-use Rattle.bits.specs.Refusal.{Name, the, item}
-use Rattle.bits.specs.Syntax.{Field, fld, flag, optional, size}
+use Rattle.bits.specs.Refusal.{the, item}
+use Rattle.bits.specs.Syntax.{fld, flag, size}
 use Rattle.bits.specs.Law.{Any, Reads}
-use Rattle.bits.specs.Many.{Times, manyFields}
-use Rattle.bits.proofs.Fields.{size-append}
+use Rattle.bits.specs.Many.{manyFields}
+use Rattle.bits.proofs.Fields.{size-append, optional-size}
 use Rattle.bits.proofs.Laws.{take, take-if, next-if, done, ends}
-use Rattle.bits.proofs.Many.{many-reads}
-use Rattle.coded.specs.Prob.{ProbValues, probFields}
-use Rattle.coded.proofs.Laws.{prob-reads}
+use Rattle.bits.proofs.Many.{many-reads, many-size}
+use Rattle.coded.specs.Prob.{probFields}
+use Rattle.coded.proofs.Laws.{prob-reads, prob-size}
 use Rattle.segmentation.specs.Feature.{FeatureValues, featureBits, featureSigned, feature, featureFields, FeatureLacks, readFeature}
 use Rattle.segmentation.specs.Features.{FeaturesValues, featuresFields, FeaturesLack, readFeatures, noFeatures}
 use Rattle.segmentation.specs.Probs.{ProbsValues, probsFields, ProbsLack, readProbs, noProbs}
@@ -64,15 +64,6 @@ segmentation-reads =
     done _ (search) tt (λ b k y. rw (← (k .1), ← (k .0 .1), ← (k .0 .0 .1))))
 
 -- how many bits each takes at most
-optional-size : (b : Bool) (fs : List Field) → size (optional b fs) ≤ size fs
-optional-size true fs = omega arith
-optional-size false fs = zero-le
-
-many-size : {A : Type 0} (f : ℕ → A → List Field) (m : ℕ) → ((i : ℕ) (a : A) → size (f i a) ≤ m) → (i n : ℕ) (v : Times n A) → size (manyFields f i n v) ≤ n * m
-unfolding manyFields
-many-size f m each i zero v = zero-le
-many-size f m each i (suc n) v = rw size-append (omega (arith, each i (v .0), many-size f m each (i + 1) n (v .1)))
-
 pub feature-size : (i j : ℕ) (v : FeatureValues) → size (featureFields i j v) ≤ 10
 unfolding featureFields
 feature-size i j v =
@@ -88,10 +79,6 @@ feature-size i j v =
 features-size : (v : FeaturesValues) → size (featuresFields v) ≤ 320
 unfolding featuresFields
 features-size v = many-size (λ i. manyFields (featureFields i) 0 4) 40 (λ i. many-size (featureFields i) 10 (feature-size i) 0 4) 0 8 v
-
-prob-size : (x y : Name) (v : ProbValues) → size (probFields x y v) ≤ 9
-unfolding probFields
-prob-size x y v = omega (arith, optional-size (flag (v .coded)) (fld y 8 (v .prob) ∷ []))
 
 probs-size : (x y : String) (n : ℕ) (v : ProbsValues n) → size (probsFields x y n v) ≤ n * 9
 unfolding probsFields

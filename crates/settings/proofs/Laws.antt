@@ -1,19 +1,19 @@
 -- The laws of the three settings, and how many bits each can take.
 -- Assumes nothing.
-use Prim.Native.Nat.{ℕ, zero, suc, _+_, _*_, _≤_}
+use Prim.Native.Nat.{ℕ, _≤_}
 use mathlib.Core.Path.{refl}
-use mathlib.Core.Bool.{Bool, true, false, not}
-use mathlib.Core.List.{List, [], _∷_}
+use mathlib.Core.Bool.{not}
+use mathlib.Core.List.{[], _∷_}
 use native.Mathlib.Omega.{arith}
-use Rattle.bits.specs.Refusal.{Name, the}
-use Rattle.bits.specs.Syntax.{Field, fld, flag, optional, size}
+use Rattle.bits.specs.Refusal.{the}
+use Rattle.bits.specs.Syntax.{fld, flag, size}
 use Rattle.bits.specs.Law.{Any, Reads}
-use Rattle.bits.specs.Many.{Times, manyFields}
-use Rattle.bits.proofs.Fields.{size-append}
+use Rattle.bits.specs.Many.{manyFields}
+use Rattle.bits.proofs.Fields.{size-append, size-optional}
 use Rattle.bits.proofs.Laws.{take, take-if, next-if, then, last, done, ends}
-use Rattle.bits.proofs.Many.{many-reads}
-use Rattle.coded.specs.Delta.{DeltaValues, deltaFields, DeltaLacks}
-use Rattle.coded.proofs.Laws.{delta-reads}
+use Rattle.bits.proofs.Many.{many-reads, many-size}
+use Rattle.coded.specs.Delta.{DeltaValues, DeltaLacks}
+use Rattle.coded.proofs.Laws.{delta-reads, delta-size}
 use Rattle.settings.specs.Filter.{FilterValues, filterFields, FilterLacks, readFilter}
 use Rattle.settings.specs.LoopDeltas.{LoopDeltasValues, refDelta, modeDelta, noRefDeltas, noModeDeltas, noLoopDeltas, loopDeltasFields, LoopDeltasLacks, readRefDeltas, readModeDeltas, readLoopDeltas}
 use Rattle.settings.specs.LoopFilter.{LoopFilterValues, loopFilterFields, LoopFilterLacks, readLoopFilter}
@@ -54,25 +54,10 @@ quantizer-reads =
     then (λ (v : QuantizerValues). v .delta-q-uv-dc) (delta-q-reads 1) λ d.
     last (λ (v : QuantizerValues). v .delta-q-uv-ac) (delta-q-reads 2) (λ a. (search)) (λ a. refl) (λ v k. rw (← (k .1), ← (k .0 .1), ← (k .0 .0 .1)))
 
--- how many bits fields can take: an optional part, a delta, a repetition
-optional-size : (b : Bool) (fs : List Field) (n : ℕ) → size fs ≤ n → size (optional b fs) ≤ n
-optional-size true fs n h = h
-optional-size false fs n h = omega arith
-
-delta-size : (x y z : Name) (n : ℕ) (v : DeltaValues) → size (deltaFields x y z n v) ≤ n + 2
-unfolding deltaFields
-delta-size x y z n v =
-    let b = flag (v .coded) in
-    rw size-append (omega (arith, optional-size b (fld y n (v .magnitude) ∷ []) n (omega arith), optional-size b (fld z 1 (v .sign) ∷ []) 1 (omega arith)))
-
-many-size : {A : Type 0} (f : ℕ → A → List Field) (m : ℕ) → ((i : ℕ) (a : A) → size (f i a) ≤ m) → (i n : ℕ) (v : Times n A) → size (manyFields f i n v) ≤ n * m
-unfolding manyFields
-many-size f m each i zero v = omega arith
-many-size f m each i (suc n) v = rw size-append (omega (arith, each i (v .0), many-size f m each (i + 1) n (v .1)))
-
+-- how many bits they have at most
 pub filter-size : (v : FilterValues) → size (filterFields v) ≤ 3
 unfolding filterFields
-filter-size v = omega (arith, optional-size (not (flag (v .is-filter-switchable))) (fld (the "raw_interpolation_filter") 2 (v .raw-interpolation-filter) ∷ []) 2 (omega arith))
+filter-size v = omega (arith, size-optional (not (flag (v .is-filter-switchable))) (fld (the "raw_interpolation_filter") 2 (v .raw-interpolation-filter) ∷ []) 2 (omega arith))
 
 loop-deltas-size : (v : LoopDeltasValues) → size (loopDeltasFields v) ≤ 49
 unfolding loopDeltasFields
@@ -80,11 +65,11 @@ loop-deltas-size v =
     let b = flag (v .delta-update) in
     let refs = many-size refDelta 8 (λ i a. delta-size _ _ _ 6 a) 0 4 (v .ref-deltas) in
     let modes = many-size modeDelta 8 (λ i a. delta-size _ _ _ 6 a) 0 2 (v .mode-deltas) in
-    rw size-append (omega (arith, optional-size b (manyFields refDelta 0 4 (v .ref-deltas)) 32 refs, optional-size b (manyFields modeDelta 0 2 (v .mode-deltas)) 16 modes))
+    rw size-append (omega (arith, size-optional b (manyFields refDelta 0 4 (v .ref-deltas)) 32 refs, size-optional b (manyFields modeDelta 0 2 (v .mode-deltas)) 16 modes))
 
 pub loop-filter-size : (v : LoopFilterValues) → size (loopFilterFields v) ≤ 59
 unfolding loopFilterFields
-loop-filter-size v = omega (arith, optional-size (flag (v .delta-enabled)) (loopDeltasFields (v .deltas)) 49 (loop-deltas-size (v .deltas)))
+loop-filter-size v = omega (arith, size-optional (flag (v .delta-enabled)) (loopDeltasFields (v .deltas)) 49 (loop-deltas-size (v .deltas)))
 
 delta-q-size : (i : ℕ) (v : DeltaValues) → size (deltaQ i v) ≤ 6
 delta-q-size i v = delta-size _ _ _ 4 v

@@ -1,7 +1,6 @@
 -- The laws of the groups, and how many bits each takes at most.
 -- Assumes nothing.
-use Prim.Native.Nat.{ℕ, zero, suc, _+_, _≤_}
-use Prim.Native.String.{String}
+use Prim.Native.Nat.{ℕ, _≤_}
 use mathlib.Core.Path.{refl}
 use mathlib.Core.Bool.{Bool, true, false}
 use native.Mathlib.Omega.{arith}
@@ -11,8 +10,7 @@ use Rattle.bits.specs.Syntax.{flag, optional, size}
 use Rattle.bits.specs.Law.{Any, Reads}
 use Rattle.bits.proofs.Fields.{size-append}
 use Rattle.bits.proofs.Laws.{take, then, next, next-if, last, done, ends}
-use Rattle.coded.specs.Run.{runFields}
-use Rattle.coded.proofs.Run.{run-reads}
+use Rattle.coded.proofs.Run.{run-reads, run-size}
 use Rattle.sizes.specs.Size.{SizeValues, noSizeValues, sizeFields, readSize}
 use Rattle.sizes.specs.Render.{RenderValues, renderFields, RenderLacks, readRender}
 use Rattle.sizes.specs.Sizes.{SizesValues, sizesFields, SizesLacks, readSizes}
@@ -60,13 +58,7 @@ size-with-refs-reads =
     next-if (eqb n 3) (λ (v : SizeWithRefsValues). eqb (v .found-ref) 3) (λ v k. rw (k .1)) noSizeValues (λ (v : SizeWithRefsValues). v .size) (size-reads _ _) λ z.
     last (λ (v : SizeWithRefsValues). v .render) render-reads (λ a. ((tt, refl), refl)) (λ a. refl) (λ b k. rw (← (k .1), ← (k .0 .1)))
 
--- a run of at most n bits takes at most n
-run-size : (x : String) (b i n k : ℕ) → size (runFields x b i n k) ≤ n
-unfolding runFields
-run-size x b i zero k = omega arith
-run-size x b i (suc n) zero = omega arith
-run-size x b i (suc n) (suc k) = omega (arith, run-size x b (i + 1) n k)
-
+-- how many bits they have at most
 pub size-size : (x y : Name) (v : SizeValues) → size (sizeFields x y v) ≤ 32
 unfolding sizeFields
 size-size x y v = omega arith

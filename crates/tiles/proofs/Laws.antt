@@ -1,17 +1,13 @@
 -- The law of tile_info(), and how long it is at most.
 -- Assumes nothing.
-use Prim.Native.Nat.{ℕ, zero, suc, _+_, _-_, _≤_}
-use Prim.Native.String.{String}
-use mathlib.Core.Bool.{Bool, true, false}
-use mathlib.Core.List.{List, [], _∷_}
+use Prim.Native.Nat.{ℕ, _-_, _≤_}
 use native.Mathlib.Omega.{arith}
 use Rattle.bits.specs.Refusal.{the}
-use Rattle.bits.specs.Syntax.{Field, fld, flag, optional, size}
+use Rattle.bits.specs.Syntax.{flag, size}
 use Rattle.bits.specs.Law.{Any, Reads}
 use Rattle.bits.proofs.Laws.{take, take-if, then, done, ends}
-use Rattle.bits.proofs.Fields.{size-append}
-use Rattle.coded.specs.Run.{runFields}
-use Rattle.coded.proofs.Run.{run-reads}
+use Rattle.bits.proofs.Fields.{size-append, size-if}
+use Rattle.coded.proofs.Run.{run-reads, run-size}
 use Rattle.tiles.specs.Limits.{superblocks}
 use Rattle.tiles.specs.Tiles.{TilesValues, increment, span, tilesFields, TilesLacks, readTiles}
 use Rattle.tiles.proofs.Limits.{most-le}
@@ -24,19 +20,9 @@ tiles-reads width =
     ends (take-if (flag r) (λ (v : TilesValues). flag (v .tile-rows-log2)) (λ v u. rw (u .1)) (the "increment_tile_rows_log2") 1 (λ (v : TilesValues). v .increment-tile-rows-log2) λ m.
     done _ (search) tt (λ b u y. rw (← (u .1), ← (u .0 .1), ← (u .0 .0 .1))))
 
-run-size : (x : String) (b i n k : ℕ) → size (runFields x b i n k) ≤ n
-unfolding runFields
-run-size x b i zero k = omega arith
-run-size x b i (suc n) zero = omega arith
-run-size x b i (suc n) (suc k) = omega (arith, run-size x b (i + 1) n k)
-
-optional-size : (b : Bool) (fs : List Field) → size (optional b fs) ≤ size fs
-optional-size true fs = omega arith
-optional-size false fs = omega arith
-
 pub tiles-size : (width : ℕ) (v : TilesValues) → size (tilesFields width v) ≤ 34
 unfolding tilesFields
 tiles-size width v =
     let cols = run-size increment 1 0 (span width) (v .increment-tile-cols-log2) in
-    let rows = optional-size (flag (v .tile-rows-log2)) (fld (the "increment_tile_rows_log2") 1 (v .increment-tile-rows-log2) ∷ []) in
+    let rows = size-if (flag (v .tile-rows-log2)) (the "increment_tile_rows_log2") 1 (v .increment-tile-rows-log2) in
     rw size-append (omega (arith, most-le (superblocks width)))

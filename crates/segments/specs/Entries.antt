@@ -1,0 +1,25 @@
+-- The scales of a segment and its reference and skip entries.
+use Prim.Native.Nat.{ℕ}
+use Rattle.types.specs.declared.enums.BitDepth.{BitDepth}
+use Rattle.types.specs.declared.quantization.QuantizationParams.{QuantizationParams}
+use Rattle.tables.specs.Tables.{dcTable, acTable}
+use Rattle.quant.specs.declared.Scales.{Scales}
+use Rattle.quant.specs.Quant.{qindexOf, scalesAt}
+use Rattle.segments.specs.declared.entries.Entries.{Entries}
+use Rattle.segments.specs.declared.features.Features.{Features}
+
+-- get_qindex() of the segment with the features f
+unfoldable pub index : QuantizationParams → Features → ℕ
+index q f = qindexOf (q .«base_q_idx») (f .«quantizer_active») (f .absolute) (f .quantizer)
+
+unfoldable pub entriesWith : Scales → Features → Entries
+entriesWith scales f =
+    record {
+      scales = scales;
+      «reference_frame_enabled» = f .«reference_enabled»;
+      «reference_frame» = f .reference;
+      «reference_skip_enabled» = f .«skip_enabled»;
+    }
+
+unfoldable pub entriesOf : BitDepth → QuantizationParams → Features → Entries
+entriesOf depth q f = entriesWith (scalesAt (dcTable depth) (acTable depth) q (index q f)) f
