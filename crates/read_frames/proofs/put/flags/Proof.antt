@@ -1,0 +1,68 @@
+-- `read_frames::put::flags` is safe and ends: the index runs from 0 to the length.
+use mathlib.Core.Path.{_≡_}
+use Prim.Native.Nat.{_≤_, _-_}
+use lib.ListN.{length}
+use borrow.Author.Needs.{needs}
+use Rattle.read_frames.proofs.put.flags.Statement.{statement}
+use Rattle.read_frames.proofs.put.flags.Tie as tie
+
+abbrev Inv-loop : tie.InvT-loop
+Inv-loop s i₀ t4 i-end i = (i ≤ i-end) × (i-end ≡ length s)
+
+abbrev μ-loop : tie.MeasureT-loop
+μ-loop s i₀ t4 i-end i = i-end - i
+
+slice-aggregate-text : tie.Need-slice-aggregate-text Inv-loop μ-loop
+slice-aggregate-text c = search needs
+
+text-requires : tie.Need-text-requires Inv-loop μ-loop
+text-requires c κs = search needs
+
+loop-holds : tie.Need-loop-holds Inv-loop μ-loop
+loop-holds c = search needs
+
+comma-requires : tie.Need-comma-requires Inv-loop μ-loop
+comma-requires c κs = search needs
+
+shared-slice-read-flag : tie.Need-shared-slice-read-flag Inv-loop μ-loop
+shared-slice-read-flag c = search needs
+
+flag-requires : tie.Need-flag-requires Inv-loop μ-loop
+flag-requires c κs = search needs
+
+add-i : tie.Need-add-i Inv-loop μ-loop
+add-i c = search needs
+
+loop-less : tie.Need-loop-less Inv-loop μ-loop
+loop-less c = search needs
+
+loop-again : tie.Need-loop-again Inv-loop μ-loop
+loop-again c = search needs
+
+slice-aggregate-text-2 : tie.Need-slice-aggregate-text-2 Inv-loop μ-loop
+slice-aggregate-text-2 c = search needs
+
+text-requires-2 : tie.Need-text-requires-2 Inv-loop μ-loop
+text-requires-2 c κs = search needs
+
+returns : tie.Need-returns Inv-loop μ-loop
+returns c = search needs
+
+pub flags-spec : {M : Type 1} → statement M
+flags-spec =
+    tie.close
+    (tie.spec
+    Inv-loop
+    μ-loop
+    slice-aggregate-text
+    text-requires
+    loop-holds
+    comma-requires
+    shared-slice-read-flag
+    flag-requires
+    add-i
+    loop-less
+    loop-again
+    slice-aggregate-text-2
+    text-requires-2
+    returns)
