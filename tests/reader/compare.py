@@ -1,15 +1,15 @@
 #!/usr/bin/env python3
 """Compares the proved header reader with the Rust, field by field.
 
-Usage: compare.py [--program PROGRAM] [--judge JUDGE] [--tools DIR] [--show N] [--bent N]
+Usage: compare.py [--program PROGRAM] [--judge JUDGE] [--src SRC_DIR] [--tools DIR] [--show N] [--bent N]
 
 PROGRAM is the proved program read_frames (default target/bin/read_frames, made by
 `rt check read_frames`). Every frame of every recording of tests/recordings and of
-every chunk of tests/handmade/series.hex is put to it: each header, and the state
-after each frame.
+every chunk of tests/handmade/series.hex is put to it: each header, and the segment
+records and the state after each frame.
 
-On document 01's domain for runs, the header is compared with the Rust's and, after
-each chunk, the state with the Rust's. Outside of it, between the frames of a chunk,
+On document 01's domain for runs, the header and the segment records are compared with
+the Rust's and, after each chunk, the state with the Rust's. Outside of it, between the frames of a chunk,
 and for a refusal's number, the answer is compared with the model of document 01
 (tests/handmade/expect.py). A chunk whose split document 01 refuses has no frames.
 --bent N also puts N bent copies of the series: in each chunk one to three bits of the
@@ -87,11 +87,34 @@ def hex_text(all_series):
 # What the program is to answer.
 
 class Question:
-    """A frame put to the program, and the lines that it must answer: how many of
-    them are the Rust's, and None for the lines if the answer isn't compared."""
+    """A frame put to the program, and the lines that it must answer, None if they
+    aren't compared. `judged`: 1 if all but the state are the Rust's, 2 if the state is too."""
 
     def __init__(self, where, data, lines, judged=0):
         self.where, self.data, self.lines, self.judged = where, data, lines, judged
+
+
+class Memory:
+    """What the model remembers between frames."""
+
+    def __init__(self, state, segments):
+        self.state, self.segments = state, segments
+
+    @classmethod
+    def fresh(cls):
+        return cls(expect.State(), expect.default_segments())
+
+    def after(self, record, tables):
+        return Memory(expect.remember(self.state, record),
+                      expect.segment_step(self.segments, record, tables))
+
+    def segment_lines(self):
+        return [f"seg {i} {expect.debug(record)}" for i, record in enumerate(self.segments)]
+
+
+def judge_segments(frame):
+    """The segment lines of a frame of the judge."""
+    return [line.strip() for line in frame[2:]]
 
 
 def state_line(text):
@@ -101,8 +124,8 @@ def state_line(text):
 class Plan:
     """What is put to the program, in order: its input, and the questions."""
 
-    def __init__(self):
-        self.input, self.questions = [], []
+    def __init__(self, tables):
+        self.tables, self.input, self.questions = tables, [], []
         self.series = self.chunks = self.split_refused = self.too_long = 0
         self.judged_chunks = self.model_chunks = self.refused_chunks = 0
 
@@ -117,50 +140,53 @@ class Plan:
         """One series with the judge's answers to it."""
         self.series += 1
         self.fresh()
-        state, judge_state, history = expect.State(), expect.State().debug(), []
+        memory, history = Memory.fresh(), []
+        judge_state, judge_lines = memory.state.debug(), memory.segment_lines()
         for number, (chunk, answer) in enumerate(zip(chunks, answers, strict=True)):
             self.chunks += 1
             where = f"{name} chunk {number}"
-            same_before = judge_state == state.debug()
-            outside = expect.outside(chunk, state)
+            same_before = (judge_state, judge_lines) == (memory.state.debug(), memory.segment_lines())
+            outside = expect.outside(chunk, memory.state)
             judge_state = plain_state(answer.state)
-            state = self.add_chunk(where, chunk, state, history,
-                                   None if outside or not same_before else answer)
+            if answer.accepted:
+                judge_lines = judge_segments(answer.frames[-1])
+            memory = self.add_chunk(where, chunk, memory, history,
+                                    None if outside or not same_before else answer)
 
-    def add_chunk(self, where, chunk, state, history, answer):
+    def add_chunk(self, where, chunk, memory, history, answer):
         """Puts a chunk's frames; `answer` is the judge's, on the domain."""
         try:
             places = expect.split(chunk)
         except expect.Refused:
             self.split_refused += 1
-            return state
+            return memory
         if any(size > LONGEST for _, size in places):
             self.too_long += 1
         self.judged_chunks += answer is not None
         self.model_chunks += answer is None
-        now, asked = state, []
+        now, asked = memory, []
         for i, (at, size) in enumerate(places):
             data = chunk[at:at + size]
             try:
-                fields, bits = expect.read_fields(data, now.slots, i)
+                fields, bits = expect.read_fields(data, now.state.slots, i)
             except expect.Refused as refused:
-                return self.refuse(f"{where} frame {i}", data, refused, state, history, asked, answer)
-            record = expect.header(fields, now, bits)
-            now = expect.remember(now, record)
-            header, after, judged = expect.debug(record), now.debug(), 0
+                return self.refuse(f"{where} frame {i}", data, refused, memory, history, asked, answer)
+            record = expect.header(fields, now.state, bits)
+            now = now.after(record, self.tables)
+            header, segments, after, judged = expect.debug(record), now.segment_lines(), now.state.debug(), 0
             if answer is not None and answer.accepted:
-                header, judged = answer.frames[i][1].strip(), 1
+                header, segments, judged = answer.frames[i][1].strip(), judge_segments(answer.frames[i]), 1
                 if i == len(places) - 1:
                     after, judged = plain_state(answer.state), 2
-            self.ask(Question(f"{where} frame {i}", data, [header, state_line(after)], judged))
+            self.ask(Question(f"{where} frame {i}", data, [header, *segments, state_line(after)], judged))
             asked.append(data)
         if answer is not None and not (answer.accepted and len(answer.frames) == len(places)):
             sys.exit(f"{where}: the judge says {answer.head}, the model accepts")
         history.extend(asked)
         return now
 
-    def refuse(self, where, data, refused, state, history, asked, answer):
-        """A refused frame; the state before the chunk is reached again."""
+    def refuse(self, where, data, refused, memory, history, asked, answer):
+        """A refused frame; what was remembered before the chunk is reached again."""
         self.refused_chunks += 1
         if answer is not None and answer.accepted:
             sys.exit(f"{where}: the judge accepts, the model says {refused}")
@@ -169,7 +195,7 @@ class Plan:
             self.fresh()
             for earlier in history:
                 self.ask(Question(f"{where}, replay", earlier, None))
-        return state
+        return memory
 
 
 # Running the program.
@@ -193,7 +219,7 @@ def group(lines):
     """The program's lines, by frame."""
     frames = []
     for line in lines:
-        if line.startswith("state "):
+        if line.startswith(("state ", "seg ")):
             frames[-1].append(line)
         else:
             frames.append([line])
@@ -222,8 +248,8 @@ def differences(question, got):
     return found
 
 
-def make_plan(judge, copies):
-    plan = Plan()
+def make_plan(judge, tables, copies):
+    plan = Plan(tables)
     recordings = sorted(glob.glob(os.path.join(ROOT, "tests", "recordings", "*.ivf")))
     for path in recordings:
         plan.add_series(os.path.basename(path), ivf_chunks(path), judge_recording(judge, path))
@@ -244,7 +270,7 @@ def print_counts(plan, recordings, wrong):
           f"{plan.judged_chunks} on the domain, {plan.model_chunks} outside, "
           f"{plan.split_refused} skipped (their split is refused), {plan.too_long} too long")
     print(f"{len(asked)} frames compared, {len(plan.questions) - len(asked)} put again to reach a state")
-    print(f"accepted {accepted}: {headers} headers with the Rust, {accepted - headers} with the model; "
+    print(f"accepted {accepted}: {headers} headers and segment records with the Rust, {accepted - headers} with the model; "
           f"{states} states with the Rust, {accepted - states} with the model")
     print(f"refused {refused}: numbers with the model")
     print(f"{wrong} differences")
@@ -254,16 +280,18 @@ def main():
     options = argparse.ArgumentParser(description="compare the proved reader with the Rust")
     options.add_argument("--program", default=os.path.join(ROOT, "target", "bin", "read_frames"))
     options.add_argument("--judge", default=os.path.join(ROOT, "target", "judge", "judge"))
+    options.add_argument("--src", default=os.path.join(ROOT, "..", "shared", "docs", "src"),
+                         help="the folder of the crate's sources")
     options.add_argument("--tools", default=kit_tools(),
                          help="the kit's folder with bin/ and lib/ for programs")
     options.add_argument("--show", type=int, default=20, help="how many differences to print")
     options.add_argument("--bent", type=int, default=0, help="how many bent copies of the series")
     given = options.parse_args()
-    for needed in (given.program, given.judge, given.tools):
+    for needed in (given.program, given.judge, given.src, given.tools):
         if not os.path.exists(needed):
             print(f"compare: no {needed}", file=sys.stderr)
             sys.exit(2)
-    plan, recordings = make_plan(given.judge, given.bent)
+    plan, recordings = make_plan(given.judge, expect.read_tables(given.src), given.bent)
     output = subprocess.run(command(given.program, given.tools), input=b"".join(plan.input),
                             stdout=subprocess.PIPE, check=True).stdout.decode()
     answers = group(output.splitlines())

@@ -25,7 +25,7 @@ pub fn word(n: u32) {
     io::print_decimal(STDOUT_FILENO, n as u64);
 }
 
-fn signed_short(n: i16) {
+pub fn signed_short(n: i16) {
     if n < 0 {
         text(b"-");
         io::print_decimal(STDOUT_FILENO, (-(n as i64)) as u64);
@@ -128,6 +128,27 @@ fn short_rows(s: &[i16]) {
     text(b"]");
 }
 
+// The two from place a on.
+fn byte_pair(s: &[u8], a: usize) {
+    if a < 7 {
+        if s.len() >= 8 {
+            let e = a + 2;
+            comma(a);
+            bytes(&s[a..e]);
+        }
+    }
+}
+
+// Four rows of two.
+fn byte_pairs(s: &[u8]) {
+    text(b"[");
+    byte_pair(s, 0);
+    byte_pair(s, 2);
+    byte_pair(s, 4);
+    byte_pair(s, 6);
+    text(b"]");
+}
+
 pub fn flags2(s: [bool; 2]) {
     flags(&s);
 }
@@ -162,4 +183,8 @@ pub fn flag_grid(s: [bool; 32]) {
 
 pub fn short_grid(s: [i16; 32]) {
     short_rows(&s);
+}
+
+pub fn byte_grid(s: [u8; 8]) {
+    byte_pairs(&s);
 }

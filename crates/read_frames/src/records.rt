@@ -1,5 +1,6 @@
 // Prints the records in the form of Rust's Debug.
 use crate::put;
+use segments::Segmentation;
 use types::BitDepth;
 use types::ColorRange;
 use types::ColorSpace;
@@ -310,4 +311,39 @@ pub fn state(st: ReaderState) {
     state_settings(st);
     state_sizes(st);
     put::text(b" }");
+}
+
+fn segment(i: u8, s: Segmentation) {
+    put::text(b"\nseg ");
+    put::byte(i);
+    let lvl_lookup = s.lvl_lookup;
+    put::text(b" Segmentation { lvl_lookup: ");
+    put::byte_grid(lvl_lookup);
+    put::text(b", luma_ac_quant_scale: ");
+    put::signed_short(s.luma_ac_quant_scale);
+    put::text(b", luma_dc_quant_scale: ");
+    put::signed_short(s.luma_dc_quant_scale);
+    put::text(b", chroma_ac_quant_scale: ");
+    put::signed_short(s.chroma_ac_quant_scale);
+    put::text(b", chroma_dc_quant_scale: ");
+    put::signed_short(s.chroma_dc_quant_scale);
+    put::text(b", reference_frame_enabled: ");
+    put::flag(s.reference_frame_enabled);
+    put::text(b", reference_frame: ");
+    put::signed_short(s.reference_frame);
+    put::text(b", reference_skip_enabled: ");
+    put::flag(s.reference_skip_enabled);
+    put::text(b" }");
+}
+
+// Each record on a line of its own.
+pub fn segments(s: [Segmentation; 8]) {
+    segment(0, s[0]);
+    segment(1, s[1]);
+    segment(2, s[2]);
+    segment(3, s[3]);
+    segment(4, s[4]);
+    segment(5, s[5]);
+    segment(6, s[6]);
+    segment(7, s[7]);
 }
