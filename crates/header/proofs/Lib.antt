@@ -2,4 +2,5 @@ pub mod Laws
 pub mod Outcomes
 pub mod Parts
 pub mod Whole
+pub mod Cases
 pub mod Theorems
