@@ -6,9 +6,9 @@ use mathlib.Core.List.{List}
 use lib.Dec.{eqb, leb}
 use borrow.Author.Tests.{eq-eqb, ne-eqb, le-leb, lt-leb, lt-ltb, le-ltb}
 use Rattle.bits.specs.Reader.{pick, got, over, groupIf}
-use Rattle.types.specs.ColorSpace.{colorSpaceOf}
-use Rattle.types.specs.declared.enums.BitDepth.{BitDepth}
-use Rattle.types.specs.declared.enums.ColorSpace.{ColorSpace}
+use Rattle.enums.specs.ColorSpace.{colorSpaceOf}
+use Rattle.enums.specs.declared.BitDepth.{BitDepth}
+use Rattle.enums.specs.declared.ColorSpace.{ColorSpace}
 use Rattle.color.specs.declared.Sampling.{Sampling}
 use Rattle.color.specs.declared.ColorRead.{ColorRead}
 use Rattle.color.specs.Sampling.{SamplingValues, rangeOf, subsampling, samplingOf}

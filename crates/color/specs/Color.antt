@@ -8,9 +8,9 @@ use Rattle.bits.specs.Refusal.{the}
 use Rattle.bits.specs.Syntax.{Field, fld, flag, optional, Coded}
 use Rattle.bits.specs.Reader.{Got, got, refused, pick, Reader, give, _>>=_, field, fieldIf}
 use Rattle.bits.specs.declared.Refusal.the-variants.{PastEnd}
-use Rattle.types.specs.ColorSpace.{colorSpaceOf}
-use Rattle.types.specs.declared.enums.BitDepth.{BitDepth}
-use Rattle.types.specs.declared.enums.BitDepth.the-variants.{Depth8, Depth10, Depth12}
+use Rattle.enums.specs.ColorSpace.{colorSpaceOf}
+use Rattle.enums.specs.declared.BitDepth.{BitDepth}
+use Rattle.enums.specs.declared.BitDepth.the-variants.{Depth8, Depth10, Depth12}
 use Rattle.color.specs.Sampling.{SamplingValues, noSampling, samplingFields, SamplingLacks, readSampling, samplingOf}
 use Rattle.color.specs.declared.Color.{Color}
 use Rattle.color.specs.declared.ColorRead.{ColorRead}

@@ -6,9 +6,9 @@ use mathlib.Core.List.{List}
 use lib.Dec.{ltb}
 use Rattle.bits.specs.Syntax.{Field, optional, Given}
 use Rattle.bits.specs.Reader.{pick, Reader, groupIf}
-use Rattle.types.specs.declared.enums.BitDepth.the-variants.{Depth8}
-use Rattle.types.specs.declared.enums.ColorRange.the-variants.{StudioSwing}
-use Rattle.types.specs.declared.enums.ColorSpace.the-variants.{Bt601}
+use Rattle.enums.specs.declared.BitDepth.the-variants.{Depth8}
+use Rattle.enums.specs.declared.ColorRange.the-variants.{StudioSwing}
+use Rattle.enums.specs.declared.ColorSpace.the-variants.{Bt601}
 use Rattle.color.specs.Color.{ColorValues, noColor, colorFields, ColorLacks, readColor, colorOf}
 use Rattle.color.specs.declared.Color.{Color}
 

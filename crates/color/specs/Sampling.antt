@@ -8,9 +8,9 @@ use Rattle.bits.specs.Refusal.{the}
 use Rattle.bits.specs.Syntax.{Field, fld, flag, optional, Coded}
 use Rattle.bits.specs.Reader.{Got, got, refused, pick, Reader, give, _>>=_, fieldIf}
 use Rattle.bits.specs.declared.Refusal.the-variants.{PastEnd}
-use Rattle.types.specs.ColorRange.{colorRangeOf}
-use Rattle.types.specs.declared.enums.ColorRange.{ColorRange}
-use Rattle.types.specs.declared.enums.ColorRange.the-variants.{FullSwing}
+use Rattle.enums.specs.ColorRange.{colorRangeOf}
+use Rattle.enums.specs.declared.ColorRange.{ColorRange}
+use Rattle.enums.specs.declared.ColorRange.the-variants.{FullSwing}
 use Rattle.color.specs.declared.Sampling.{Sampling}
 use Rattle.color.specs.declared.SamplingRead.{SamplingRead}
 use Rattle.color.specs.declared.SamplingRead.the-variants.{Value, Short}

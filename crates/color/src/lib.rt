@@ -6,9 +6,9 @@ ghost use Rattle.color.specs.Color.{depthOf, readColor, colorOf, viewCol
 ghost use Rattle.color.specs.Intra.{readIntraColor, intraColorOf};
 use bits::Bits;
 use bits::Cursor;
-use types::BitDepth;
-use types::ColorRange;
-use types::ColorSpace;
+use enums::BitDepth;
+use enums::ColorRange;
+use enums::ColorSpace;
 
 // The colour space RGB, which codes neither range nor subsampling.
 const CS_RGB: u32 = 7;

@@ -4,8 +4,8 @@ use Prim.Native.Nat.{ℕ}
 use mathlib.Core.Path.{_≡_, refl}
 use mathlib.Core.List.{List, [], _∷_}
 use Rattle.types.specs.ReaderState.{freshState}
-use Rattle.types.specs.declared.enums.FrameType.{FrameType}
-use Rattle.types.specs.declared.enums.FrameType.the-variants.{KeyFrame, InterFrame}
+use Rattle.enums.specs.declared.FrameType.{FrameType}
+use Rattle.enums.specs.declared.FrameType.the-variants.{KeyFrame, InterFrame}
 use Rattle.types.specs.declared.state.ReaderState.{ReaderState}
 use Rattle.header.specs.declared.HeaderRead.{HeaderRead}
 use Rattle.header.specs.Answer.{parsed, verdictNumber}

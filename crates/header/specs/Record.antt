@@ -9,13 +9,13 @@ use Rattle.bits.specs.Reader.{pick}
 use Rattle.types.specs.LoopFilterParams.{defaultFilter}
 use Rattle.types.specs.QuantizationParams.{defaultQuantization}
 use Rattle.types.specs.SegmentationParams.{defaultSegmentation}
-use Rattle.types.specs.Profile.{profileOf as profileNamed}
-use Rattle.types.specs.declared.enums.BitDepth.the-variants.{Depth8}
-use Rattle.types.specs.declared.enums.ColorRange.the-variants.{StudioSwing}
-use Rattle.types.specs.declared.enums.ColorSpace.the-variants.{Unknown}
-use Rattle.types.specs.declared.enums.FrameType.{FrameType}
-use Rattle.types.specs.declared.enums.FrameType.the-variants.{KeyFrame, InterFrame}
-use Rattle.types.specs.declared.enums.InterpolationFilter.the-variants.{EightTap}
+use Rattle.enums.specs.Profile.{profileOf as profileNamed}
+use Rattle.enums.specs.declared.BitDepth.the-variants.{Depth8}
+use Rattle.enums.specs.declared.ColorRange.the-variants.{StudioSwing}
+use Rattle.enums.specs.declared.ColorSpace.the-variants.{Unknown}
+use Rattle.enums.specs.declared.FrameType.{FrameType}
+use Rattle.enums.specs.declared.FrameType.the-variants.{KeyFrame, InterFrame}
+use Rattle.enums.specs.declared.InterpolationFilter.the-variants.{EightTap}
 use Rattle.types.specs.declared.header.Header.{Header}
 use Rattle.types.specs.declared.state.ReaderState.{ReaderState}
 use Rattle.start.specs.declared.Opening.{Opening}

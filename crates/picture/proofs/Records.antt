@@ -12,7 +12,7 @@ use Rattle.bits.specs.declared.Cursor.{Cursor}
 use Rattle.bits.specs.Read.{readBits}
 use Rattle.bits.specs.Reader.{got}
 use Rattle.bits.proofs.Steps.{value-lt}
-use Rattle.types.specs.declared.enums.InterpolationFilter.{InterpolationFilter}
+use Rattle.enums.specs.declared.InterpolationFilter.{InterpolationFilter}
 use Rattle.types.specs.declared.size.FrameSize.{FrameSize}
 use Rattle.color.specs.declared.Color.{Color}
 use Rattle.color.specs.Color.{ColorValues, colorOf}

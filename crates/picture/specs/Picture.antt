@@ -3,7 +3,7 @@
 use Prim.Native.Nat.{ℕ}
 use mathlib.Core.Bool.{false}
 use Rattle.bits.specs.Reader.{Got, got, refused}
-use Rattle.types.specs.declared.enums.InterpolationFilter.the-variants.{EightTap}
+use Rattle.enums.specs.declared.InterpolationFilter.the-variants.{EightTap}
 use Rattle.color.specs.declared.Color.{Color}
 use Rattle.sizes.specs.declared.Sizes.{Sizes}
 use Rattle.sizes.specs.declared.Ref.{Ref}

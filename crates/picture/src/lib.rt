@@ -12,6 +12,7 @@ use bits::Cursor;
 use bits::Refusal;
 use color::Color;
 use color::ColorRead;
+use enums::InterpolationFilter;
 use settings::FilterRead;
 use sizes::Ref;
 use sizes::Refs;
@@ -20,7 +21,6 @@ use sizes::Sizes;
 use sizes::SizesRead;
 use start::SyncRead;
 use types::FrameSize;
-use types::InterpolationFilter;
 
 pub struct Motion {
     pub allow_high_precision_mv: bool,

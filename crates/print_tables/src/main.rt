@@ -1,7 +1,7 @@
 // Prints the six quantizer tables as the look-up gives them: a line for each, with its name and its 256 scales.
+use enums::BitDepth;
 use libc::STDOUT_FILENO;
 use tables::Table;
-use types::BitDepth;
 
 // A scale after a space. A negative one, which no table has, would print as 0.
 fn print_scale(scale: i16) {

@@ -3,11 +3,11 @@ use Prim.Native.Nat.{ℕ}
 use mathlib.Core.Bool.{Bool, true, false}
 use mathlib.Core.List.{List}
 use lib.IntN.{ℤ, pos, _+ℤ_}
-use Rattle.types.specs.declared.enums.BitDepth.{BitDepth}
-use Rattle.types.specs.declared.enums.SegLvl.the-variants.{AltQ}
+use Rattle.enums.specs.declared.BitDepth.{BitDepth}
+use Rattle.enums.specs.declared.SegLvl.the-variants.{AltQ}
 use Rattle.types.specs.declared.quantization.QuantizationParams.{QuantizationParams}
 use Rattle.types.specs.declared.segmentation.SegmentationParams.{SegmentationParams}
-use Rattle.types.specs.Numbered.{pick}
+use Rattle.enums.specs.Numbered.{pick}
 use Rattle.types.specs.SegmentationParams.{featureActive, featureData}
 use Rattle.clamp.specs.Clamp.{clampTo, changed}
 use Rattle.tables.specs.Tables.{dcTable, acTable, entry}

@@ -3,10 +3,10 @@ ghost use mathlib.Core.Path.{_≡_};
 ghost use lib.IntN.{pos, _+ℤ_};
 ghost use Rattle.clamp.specs.Clamp.{clampTo};
 ghost use Rattle.quant.specs.Quant.{qindexOf, qindex, scaleAt, dcDelta, acDelta, dcQuant, acQuant, scalesAt, scalesOf};
+use enums::BitDepth;
+use enums::SegLvl;
 use tables::Table;
-use types::BitDepth;
 use types::QuantizationParams;
-use types::SegLvl;
 use types::SegmentationParams;
 
 const MAX_Q_INDEX: u8 = 255;

@@ -1,15 +1,15 @@
 // Prints the records in the form of Rust's Debug.
 use crate::put;
+use enums::BitDepth;
+use enums::ColorRange;
+use enums::ColorSpace;
+use enums::FrameType;
+use enums::InterpolationFilter;
+use enums::Profile;
 use segments::Segmentation;
-use types::BitDepth;
-use types::ColorRange;
-use types::ColorSpace;
 use types::FrameSize;
-use types::FrameType;
 use types::Header;
-use types::InterpolationFilter;
 use types::LoopFilterParams;
-use types::Profile;
 use types::QuantizationParams;
 use types::ReaderState;
 use types::SegmentationParams;

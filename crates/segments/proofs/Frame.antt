@@ -6,11 +6,11 @@ use Prim.Native.Nat.{ℕ}
 use lib.Dec.{eqb}
 use lib.IntN.{ℤ, pos}
 use lib.ListN.{getD}
-use Rattle.types.specs.declared.enums.BitDepth.{BitDepth}
+use Rattle.enums.specs.declared.BitDepth.{BitDepth}
 use Rattle.types.specs.declared.header.Header.{Header}
 use Rattle.types.specs.declared.loop_filter.LoopFilterParams.{LoopFilterParams}
 use Rattle.types.specs.declared.quantization.QuantizationParams.{QuantizationParams}
-use Rattle.types.specs.Numbered.{pick}
+use Rattle.enums.specs.Numbered.{pick}
 use Rattle.clamp.specs.Clamp.{clampTo, changed}
 use Rattle.tables.specs.Tables.{dcTable, acTable}
 use Rattle.quant.specs.Quant.{qindexOf, scalesAt}

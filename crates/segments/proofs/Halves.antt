@@ -1,7 +1,7 @@
 -- A record's halves: the levels, which follow from those before, and the entries, which follow from the settings alone.
 use mathlib.Core.Path.{_≡_, refl}
 use Prim.Native.Nat.{ℕ}
-use Rattle.types.specs.declared.enums.BitDepth.{BitDepth}
+use Rattle.enums.specs.declared.BitDepth.{BitDepth}
 use Rattle.types.specs.declared.header.Header.{Header}
 use Rattle.types.specs.declared.quantization.QuantizationParams.{QuantizationParams}
 use Rattle.types.specs.declared.segmentation.SegmentationParams.{SegmentationParams}

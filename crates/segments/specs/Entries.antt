@@ -1,6 +1,6 @@
 -- The scales of a segment and its reference and skip entries.
 use Prim.Native.Nat.{ℕ}
-use Rattle.types.specs.declared.enums.BitDepth.{BitDepth}
+use Rattle.enums.specs.declared.BitDepth.{BitDepth}
 use Rattle.types.specs.declared.quantization.QuantizationParams.{QuantizationParams}
 use Rattle.tables.specs.Tables.{dcTable, acTable}
 use Rattle.quant.specs.declared.Scales.{Scales}

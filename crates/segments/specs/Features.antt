@@ -3,7 +3,7 @@ use Prim.Native.Nat.{ℕ}
 use mathlib.Core.List.{List}
 use mathlib.Core.Bool.{Bool, false, _&&_}
 use lib.IntN.{ℤ, pos}
-use Rattle.types.specs.declared.enums.SegLvl.the-variants.{AltQ, AltL, RefFrame, LvlSkip}
+use Rattle.enums.specs.declared.SegLvl.the-variants.{AltQ, AltL, RefFrame, LvlSkip}
 use Rattle.types.specs.declared.segmentation.SegmentationParams.{SegmentationParams}
 use Rattle.types.specs.SegmentationParams.{featureIn}
 use Rattle.segments.specs.declared.features.Features.{Features}

@@ -7,7 +7,7 @@ use lib.ListN.{getD}
 use Rattle.types.specs.declared.loop_filter.LoopFilterParams.{LoopFilterParams}
 use Rattle.types.specs.declared.quantization.QuantizationParams.{QuantizationParams}
 use Rattle.types.specs.declared.segmentation.SegmentationParams.{SegmentationParams}
-use Rattle.types.specs.Numbered.{pick}
+use Rattle.enums.specs.Numbered.{pick}
 use Rattle.clamp.specs.Clamp.{clampTo, changed}
 use Rattle.quant.specs.declared.Scales.{Scales}
 use Rattle.quant.specs.Quant.{scalesAt}

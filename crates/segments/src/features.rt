@@ -3,10 +3,10 @@ ghost use mathlib.Core.Path.{_≡_};
 ghost use mathlib.Core.Bool.{false, _&&_};
 ghost use Prim.Native.Nat.{_+_, _*_};
 ghost use lib.IntN.{pos};
-ghost use Rattle.types.specs.SegLvl.{segLvlNumber};
+ghost use Rattle.enums.specs.SegLvl.{segLvlNumber};
 ghost use Rattle.types.specs.SegmentationParams.{featureIn};
 ghost use Rattle.segments.specs.Features.{featuresIn};
-use types::SegLvl;
+use enums::SegLvl;
 use types::SegmentationParams;
 
 pub type Enabled = [bool; SegmentationParams::FEATURES];

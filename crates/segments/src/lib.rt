@@ -10,11 +10,11 @@ mod grid;
 mod levels;
 
 use entries::Entries;
+use enums::BitDepth;
 use features::Features;
 use grid::Grid;
 use quant::Scales;
 use tables::Table;
-use types::BitDepth;
 use types::Header;
 use types::LoopFilterParams;
 use types::QuantizationParams;

@@ -8,7 +8,7 @@ use Rattle.bits.specs.declared.Next.{Next}
 use Rattle.bits.specs.declared.Next.the-variants.{At, Refused}
 use Rattle.bits.specs.declared.Refusal.{Refusal}
 use Rattle.bits.specs.Reader.{Got, got, refused, over, viewNext}
-use Rattle.types.specs.declared.enums.InterpolationFilter.{InterpolationFilter}
+use Rattle.enums.specs.declared.InterpolationFilter.{InterpolationFilter}
 use Rattle.types.specs.declared.loop_filter.LoopFilterParams.{LoopFilterParams}
 use Rattle.types.specs.declared.quantization.QuantizationParams.{QuantizationParams}
 use Rattle.settings.specs.declared.FilterRead.{FilterRead}

@@ -22,9 +22,9 @@ use Rattle.bits.proofs.Steps.{value-lt}
 use Rattle.coded.specs.declared.Delta.{Delta}
 use Rattle.coded.specs.Delta.{DeltaValues, deltaOf}
 use Rattle.types.specs.declared.loop_filter.LoopFilterParams.{LoopFilterParams}
-use Rattle.types.specs.InterpolationFilter.{filterOfLiteral}
-use Rattle.types.specs.declared.enums.InterpolationFilter.{InterpolationFilter}
-use Rattle.types.specs.declared.enums.InterpolationFilter.the-variants.{Switchable}
+use Rattle.enums.specs.InterpolationFilter.{filterOfLiteral}
+use Rattle.enums.specs.declared.InterpolationFilter.{InterpolationFilter}
+use Rattle.enums.specs.declared.InterpolationFilter.the-variants.{Switchable}
 use Rattle.settings.specs.Filter.{filterOf}
 use Rattle.settings.specs.declared.RefDeltas.{RefDeltas}
 use Rattle.settings.specs.declared.ModeDeltas.{ModeDeltas}

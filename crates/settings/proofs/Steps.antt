@@ -16,7 +16,7 @@ use Rattle.bits.specs.Reader.{Got, Read, refused, bind, over, groupIf}
 use Rattle.bits.specs.Many.{Times}
 use Rattle.bits.proofs.Steps.{group-step, group-stop, gave, lacked}
 use Rattle.coded.specs.Delta.{DeltaValues}
-use Rattle.types.specs.declared.enums.InterpolationFilter.{InterpolationFilter}
+use Rattle.enums.specs.declared.InterpolationFilter.{InterpolationFilter}
 use Rattle.types.specs.declared.loop_filter.LoopFilterParams.{LoopFilterParams}
 use Rattle.types.specs.declared.quantization.QuantizationParams.{QuantizationParams}
 use Rattle.settings.specs.declared.FilterRead.{FilterRead}

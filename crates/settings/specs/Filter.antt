@@ -7,9 +7,9 @@ use Rattle.bits.specs.Refusal.{the}
 use Rattle.bits.specs.Syntax.{Field, fld, flag, optional, Coded}
 use Rattle.bits.specs.Reader.{Got, got, refused, pick, Reader, give, _>>=_, field, fieldIf}
 use Rattle.bits.specs.declared.Refusal.the-variants.{PastEnd}
-use Rattle.types.specs.InterpolationFilter.{filterOfLiteral}
-use Rattle.types.specs.declared.enums.InterpolationFilter.{InterpolationFilter}
-use Rattle.types.specs.declared.enums.InterpolationFilter.the-variants.{Switchable}
+use Rattle.enums.specs.InterpolationFilter.{filterOfLiteral}
+use Rattle.enums.specs.declared.InterpolationFilter.{InterpolationFilter}
+use Rattle.enums.specs.declared.InterpolationFilter.the-variants.{Switchable}
 use Rattle.settings.specs.declared.FilterRead.{FilterRead}
 use Rattle.settings.specs.declared.FilterRead.the-variants.{Value, Short}
 

@@ -30,7 +30,7 @@ use bits::Next;
 use bits::Refusal;
 use coded::Delta;
 use coded::DeltaRead;
-use types::InterpolationFilter;
+use enums::InterpolationFilter;
 use types::LoopFilterParams;
 use types::QuantizationParams;
 

@@ -4,7 +4,7 @@ use Prim.Native.Nat.{ℕ, _+_, _/_, _%_, _^_}
 use mathlib.Core.Bool.{Bool}
 use mathlib.Core.List.{List, [], _∷_}
 use lib.Dec.{eqb}
-use Rattle.types.specs.Numbered.{pick}
+use Rattle.enums.specs.Numbered.{pick}
 use Rattle.types.specs.declared.size.FrameSize.{FrameSize}
 
 -- f of each element and its number, from number i on

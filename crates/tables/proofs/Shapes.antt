@@ -7,8 +7,8 @@ use native.Mathlib.Nat.{le-of-suc-le-suc, not-suc-le-zero, eq-or-lt-of-le}
 use native.Mathlib.Omega.{arith}
 use lib.Dec.{T, leb, ltb, eqb, leb→le, ltb→lt, eqb→eq}
 use lib.ListN.{length, getD}
-use Rattle.types.specs.declared.enums.BitDepth.{BitDepth}
-use Rattle.types.specs.declared.enums.BitDepth.the-variants.{Depth8, Depth10, Depth12}
+use Rattle.enums.specs.declared.BitDepth.{BitDepth}
+use Rattle.enums.specs.declared.BitDepth.the-variants.{Depth8, Depth10, Depth12}
 use Rattle.tables.specs.Lists.{dcQlookup8, dcQlookup10, dcQlookup12, acQlookup8, acQlookup10, acQlookup12}
 use Rattle.tables.specs.Tables.{dcRow, acRow}
 use Rattle.tables.specs.Shape.{Shaped, dcStep}

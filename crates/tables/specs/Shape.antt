@@ -3,8 +3,8 @@ use mathlib.Core.Path.{_≡_}
 use mathlib.Core.List.{List}
 use Prim.Native.Nat.{ℕ, _+_, _<_, _≤_}
 use lib.ListN.{length, getD}
-use Rattle.types.specs.declared.enums.BitDepth.{BitDepth}
-use Rattle.types.specs.declared.enums.BitDepth.the-variants.{Depth8, Depth10, Depth12}
+use Rattle.enums.specs.declared.BitDepth.{BitDepth}
+use Rattle.enums.specs.declared.BitDepth.the-variants.{Depth8, Depth10, Depth12}
 
 -- 256 scales, each positive and within 16 signed bits, and each at least step above those before it
 pub record Shaped (step : ℕ) (t : List ℕ) : Type 0 where

@@ -3,8 +3,8 @@ use Prim.Native.Nat.{ℕ}
 use mathlib.Core.List.{List, map}
 use lib.ListN.{getD}
 use lib.IntN.{ℤ, pos}
-use Rattle.types.specs.declared.enums.BitDepth.{BitDepth}
-use Rattle.types.specs.declared.enums.BitDepth.the-variants.{Depth8, Depth10, Depth12}
+use Rattle.enums.specs.declared.BitDepth.{BitDepth}
+use Rattle.enums.specs.declared.BitDepth.the-variants.{Depth8, Depth10, Depth12}
 use Rattle.tables.specs.Lists.{dcQlookup8, dcQlookup10, dcQlookup12, acQlookup8, acQlookup10, acQlookup12}
 
 -- dc_qlookup[(BitDepth - 8) >> 1]

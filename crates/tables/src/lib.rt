@@ -5,7 +5,7 @@ ghost use Rattle.tables.specs.Tables.{dcTable, acTable, entry};
 
 mod lookups;
 
-use types::BitDepth;
+use enums::BitDepth;
 
 pub type Table = [i16; 256];
 

@@ -7,11 +7,11 @@ use Prim.Native.Nat.{ℕ, _+_, _*_, _<_, _≤_}
 use native.Mathlib.Omega.{arith}
 use borrow.Author.Tests.{lt-ltb, le-ltb}
 use lib.ListN.{getD}
-use Rattle.types.specs.SegLvl.{segLvlNumber}
+use Rattle.enums.specs.SegLvl.{segLvlNumber}
 use Rattle.types.specs.SegmentationParams.{featureIn, featureEnabled, featureActive}
 use Rattle.types.specs.declared.segmentation.SegmentationParams.{SegmentationParams}
-use Rattle.types.specs.declared.enums.SegLvl.{SegLvl}
-use Rattle.types.specs.declared.enums.SegLvl.the-variants.{AltQ, AltL, RefFrame, LvlSkip}
+use Rattle.enums.specs.declared.SegLvl.{SegLvl}
+use Rattle.enums.specs.declared.SegLvl.the-variants.{AltQ, AltL, RefFrame, LvlSkip}
 
 number-below : (f : SegLvl) → segLvlNumber f < 4
 number-below AltQ = omega arith

@@ -4,12 +4,12 @@ use lib.ListN.{replicate}
 use Rattle.types.specs.LoopFilterParams.{defaultFilter}
 use Rattle.types.specs.QuantizationParams.{defaultQuantization}
 use Rattle.types.specs.SegmentationParams.{defaultSegmentation}
-use Rattle.types.specs.declared.enums.BitDepth.the-variants.{Depth8}
-use Rattle.types.specs.declared.enums.ColorRange.the-variants.{StudioSwing}
-use Rattle.types.specs.declared.enums.ColorSpace.the-variants.{Unknown}
-use Rattle.types.specs.declared.enums.FrameType.the-variants.{KeyFrame}
-use Rattle.types.specs.declared.enums.InterpolationFilter.the-variants.{EightTap}
-use Rattle.types.specs.declared.enums.Profile.the-variants.{Profile0}
+use Rattle.enums.specs.declared.BitDepth.the-variants.{Depth8}
+use Rattle.enums.specs.declared.ColorRange.the-variants.{StudioSwing}
+use Rattle.enums.specs.declared.ColorSpace.the-variants.{Unknown}
+use Rattle.enums.specs.declared.FrameType.the-variants.{KeyFrame}
+use Rattle.enums.specs.declared.InterpolationFilter.the-variants.{EightTap}
+use Rattle.enums.specs.declared.Profile.the-variants.{Profile0}
 use Rattle.types.specs.declared.header.Header.{Header}
 
 abbrev pub defaultHeader : Header

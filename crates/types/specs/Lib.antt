@@ -1,12 +1,3 @@
-pub mod Numbered
-pub mod BitDepth
-pub mod ColorRange
-pub mod ColorSpace
-pub mod FrameType
-pub mod InterpolationFilter
-pub mod Profile
-pub mod ReferenceFrameType
-pub mod SegLvl
 pub mod FrameSize
 pub mod LoopFilterParams
 pub mod QuantizationParams

@@ -4,9 +4,9 @@ use lib.ListN.{replicate}
 use Rattle.types.specs.FrameSize.{noSize}
 use Rattle.types.specs.LoopFilterParams.{defaultFilter}
 use Rattle.types.specs.SegmentationParams.{defaultSegmentation}
-use Rattle.types.specs.declared.enums.BitDepth.the-variants.{Depth8}
-use Rattle.types.specs.declared.enums.ColorRange.the-variants.{StudioSwing}
-use Rattle.types.specs.declared.enums.ColorSpace.the-variants.{Unknown}
+use Rattle.enums.specs.declared.BitDepth.the-variants.{Depth8}
+use Rattle.enums.specs.declared.ColorRange.the-variants.{StudioSwing}
+use Rattle.enums.specs.declared.ColorSpace.the-variants.{Unknown}
 use Rattle.types.specs.declared.state.ReaderState.{ReaderState}
 
 abbrev pub freshState : ReaderState

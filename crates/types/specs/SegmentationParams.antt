@@ -5,9 +5,9 @@ use mathlib.Core.Bool.{Bool, false, _&&_}
 use lib.Dec.{ltb}
 use lib.IntN.{ℤ, pos}
 use lib.ListN.{getD, replicate}
-use Rattle.types.specs.Numbered.{pick}
-use Rattle.types.specs.SegLvl.{segLvlNumber}
-use Rattle.types.specs.declared.enums.SegLvl.{SegLvl}
+use Rattle.enums.specs.Numbered.{pick}
+use Rattle.enums.specs.SegLvl.{segLvlNumber}
+use Rattle.enums.specs.declared.SegLvl.{SegLvl}
 use Rattle.types.specs.declared.segmentation.SegmentationParams.{SegmentationParams}
 
 abbrev pub defaultSegmentation : SegmentationParams

@@ -1,15 +1,15 @@
 // A frame's header, with the filter, quantizer and segmentation settings that hold for the frame.
 ghost use mathlib.Core.Path.{_≡_};
 ghost use Rattle.types.specs.Header.{defaultHeader};
-use crate::enums::BitDepth;
-use crate::enums::ColorRange;
-use crate::enums::ColorSpace;
-use crate::enums::FrameType;
-use crate::enums::InterpolationFilter;
-use crate::enums::Profile;
 use crate::loop_filter::LoopFilterParams;
 use crate::quantization::QuantizationParams;
 use crate::segmentation::SegmentationParams;
+use enums::BitDepth;
+use enums::ColorRange;
+use enums::ColorSpace;
+use enums::FrameType;
+use enums::InterpolationFilter;
+use enums::Profile;
 
 pub struct Header {
     pub profile: Profile,

@@ -1,7 +1,7 @@
 // The segmentation settings, which a state remembers from frame to frame.
 ghost use mathlib.Core.Path.{_≡_};
 ghost use Prim.Native.Nat.{_+_, _*_};
-ghost use Rattle.types.specs.SegLvl.{segLvlNumber};
+ghost use Rattle.enums.specs.SegLvl.{segLvlNumber};
 ghost use Rattle.types.specs.SegmentationParams.{
   defaultSegmentation,
   resetSegmentation,
@@ -9,7 +9,7 @@ ghost use Rattle.types.specs.SegmentationParams.{
   featureActive,
   featureData,
 };
-use crate::enums::SegLvl;
+use enums::SegLvl;
 
 // The features of segment s stand at s * 4 to s * 4 + 3 of the last two rows.
 pub struct SegmentationParams {

@@ -1,0 +1,22 @@
+-- FrameType: the number of each variant, and the variant of each number.
+use Prim.Native.Nat.{ℕ}
+use mathlib.Core.List.{List, [], _∷_}
+use Rattle.enums.specs.Numbered.{numbered, answered, orElse}
+use Rattle.enums.specs.declared.FrameType.{FrameType}
+use Rattle.enums.specs.declared.FrameType.the-variants.{KeyFrame, InterFrame}
+use Rattle.enums.specs.declared.TryFrameType.{TryFrameType}
+use Rattle.enums.specs.declared.TryFrameType.the-variants.{Ok, Err}
+
+abbrev pub frameTypeNumber : FrameType → ℕ
+frameTypeNumber KeyFrame = 0
+frameTypeNumber InterFrame = 1
+
+abbrev pub frameTypes : List FrameType
+frameTypes = KeyFrame ∷ InterFrame ∷ []
+
+abbrev pub frameTypeNumbered : ℕ → TryFrameType
+frameTypeNumbered n = answered Ok Err (numbered frameTypeNumber frameTypes n)
+
+-- every number past the last variant's gives the last variant
+abbrev pub frameTypeOf : ℕ → FrameType
+frameTypeOf n = orElse InterFrame (numbered frameTypeNumber frameTypes n)

@@ -1,0 +1,10 @@
+-- SegLvl: the number of each feature of a segment.
+use Prim.Native.Nat.{ℕ}
+use Rattle.enums.specs.declared.SegLvl.{SegLvl}
+use Rattle.enums.specs.declared.SegLvl.the-variants.{AltQ, AltL, RefFrame, LvlSkip}
+
+abbrev pub segLvlNumber : SegLvl → ℕ
+segLvlNumber AltQ = 0
+segLvlNumber AltL = 1
+segLvlNumber RefFrame = 2
+segLvlNumber LvlSkip = 3
