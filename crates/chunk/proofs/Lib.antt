@@ -1,1 +1,4 @@
 pub mod Walk
+pub mod Fault
+pub mod Table
+pub mod Accepted

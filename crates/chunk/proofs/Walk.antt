@@ -18,14 +18,14 @@ use Rattle.header.specs.Answer.{parsed}
 use Rattle.index.specs.declared.Answer.{Answer as SplitAnswer}
 use Rattle.index.specs.declared.Answer.the-variants.{Frames}
 use Rattle.index.specs.declared.Split.{Split}
-use Rattle.index.specs.Split.{splitOf}
+use Rattle.index.specs.Split.{filled, splitOf}
 use Rattle.index.proofs.Tiles.{count-range, frame-inside}
 use Rattle.chunk.specs.declared.Answer.the-variants as answer
 use Rattle.chunk.specs.declared.ChunkRead.{ChunkRead}
 use Rattle.chunk.specs.Frames.{stateBefore, frameRead, none, fault, firstFault}
-use Rattle.chunk.specs.Answer.{refusedChunk, headersOf, acceptedChunk, answered, chunkBy, chunkOf}
+use Rattle.chunk.specs.Answer.{refusedChunk, acceptedChunk, answered, chunkBy, chunkOf}
 
-abbrev verdictAt : List ℕ → ReaderState → ℕ → Verdict
+abbrev pub verdictAt : List ℕ → ReaderState → ℕ → Verdict
 verdictAt s st i = frameRead s (splitOf s) st i .verdict
 
 -- of the n frames of a chunk i are accepted; the search for a refusal, from here on, gives what the whole search gives
@@ -36,7 +36,7 @@ pub record Walked (s : List ℕ) (st : ReaderState) (n : ℕ) (at size : List �
   pub sizes : size ≡ splitOf s .size
   pub within : i ≤ n
   pub here : state ≡ stateBefore s (splitOf s) st i
-  pub held : headers ≡ headersOf (λ j. frameRead s (splitOf s) st j .header) i
+  pub held : headers ≡ filled defaultHeader (λ j. frameRead s (splitOf s) st j .header) i
   pub same : firstFault (verdictAt s st) i (n - i) ≡ firstFault (verdictAt s st) 0 n
 
 -- the answer by that of the split
@@ -45,7 +45,7 @@ unfolding chunkOf
 by-split s st {p = p} a e f = ap (chunkBy s (splitOf s) st) (sym f ∙ ap (λ (q : Split). q .answer) e)
 
 pub walked-none : {s : List ℕ} {st : ReaderState} {n : ℕ} (p : Split) → p ≡ splitOf s → p .answer ≡ Frames n → Walked s st n (p .at) (p .size) 0 (replicate 8 defaultHeader) st
-unfolding stateBefore headersOf
+unfolding stateBefore filled
 walked-none {s = s} {n = n} p e a = record {
   split = rw e at a;
   few = count-range s p e n a .1;
@@ -73,7 +73,7 @@ module _ {s : List ℕ} {st : ReaderState} {n : ℕ} {at size : List ℕ} {i : �
       is-read = let k : getD at i 0 + getD size i 0 - getD at i 0 ≡ getD size i 0 = omega arith in rw (e, k, w .starts, w .sizes, w .here)
 
       pub walked-more : r .verdict ≡ Accepted → Walked s st n at size (i + 1) (set headers i (r .header)) (r .state)
-      unfolding stateBefore frameRead headersOf firstFault
+      unfolding stateBefore frameRead filled firstFault
       walked-more v =
           let ok : verdictAt s st i ≡ Accepted = rw is-read at v in
           record {

@@ -1,16 +1,15 @@
 -- What the reader answers to a chunk under a state.
 -- Assumes nothing.
-use Prim.Native.Nat.{ℕ, zero, suc}
+use Prim.Native.Nat.{ℕ}
 use mathlib.Core.List.{List}
-use lib.ListN.{set, replicate}
+use lib.ListN.{replicate}
 use Rattle.bits.specs.Refusal.{refusalNumber}
 use Rattle.types.specs.Header.{defaultHeader}
-use Rattle.types.specs.declared.header.Header.{Header}
 use Rattle.types.specs.declared.state.ReaderState.{ReaderState}
 use Rattle.index.specs.declared.Answer.{Answer as SplitAnswer}
 use Rattle.index.specs.declared.Answer.the-variants as split
 use Rattle.index.specs.declared.Split.{Split}
-use Rattle.index.specs.Split.{splitOf}
+use Rattle.index.specs.Split.{filled, splitOf}
 use Rattle.chunk.specs.declared.Answer.{Answer}
 use Rattle.chunk.specs.declared.Answer.the-variants as answer
 use Rattle.chunk.specs.declared.ChunkRead.{ChunkRead}
@@ -36,11 +35,6 @@ chunkFrame (answer.Header i e) = i
 abbrev pub refusedChunk : Answer → ReaderState → ChunkRead
 refusedChunk a st = record { answer = a; at = replicate 8 0; size = replicate 8 0; headers = replicate 8 defaultHeader; state = st }
 
--- eight headers, of which the first n are f's and the others default ones
-unfoldable pub headersOf : (ℕ → Header) → ℕ → List Header
-headersOf f zero = replicate 8 defaultHeader
-headersOf f (suc n) = set (headersOf f n) n (f n)
-
 -- n frames: their places and headers, and the state after the last
 abbrev pub acceptedChunk : List ℕ → Split → ReaderState → ℕ → ChunkRead
 acceptedChunk s p st n =
@@ -48,7 +42,7 @@ acceptedChunk s p st n =
       answer = answer.Frames n;
       at = p .at;
       size = p .size;
-      headers = headersOf (λ i. frameRead s p st i .header) n;
+      headers = filled defaultHeader (λ i. frameRead s p st i .header) n;
       state = stateBefore s p st n;
     }
 

@@ -7,8 +7,8 @@ use bits::Refusal;
 use header::Verdict;
 use index::Split;
 use types::Header;
-use types::ReaderState;
 use types::MAX_FRAMES_IN_SUPERFRAME;
+use types::ReaderState;
 
 pub enum Answer {
     // So many frames.

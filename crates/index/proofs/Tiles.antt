@@ -21,25 +21,26 @@ use Rattle.index.proofs.First.{below, placed-past, placed-none}
 use Rattle.index.proofs.Cases.{split-empty, split-cut, split-placed, layout-indexed, layout-whole}
 use Rattle.index.proofs.Table.{exactly}
 
--- eight places, of which n are filled
-length-filled : (f : ℕ → ℕ) (n : ℕ) → length (filled f n) ≡ 8
-unfolding filled
-length-filled f zero = refl
-length-filled f (suc n) = rw length-set (length-filled f n)
+-- eight entries, of which n are filled
+module _ {A : Type 0} (d : A) (f : ℕ → A) where
+  length-filled : (n : ℕ) → length (filled d f n) ≡ 8
+  unfolding filled
+  length-filled zero = refl
+  length-filled (suc n) = rw length-set (length-filled n)
 
-filled-at : (f : ℕ → ℕ) (n i : ℕ) → n ≤ 8 → i < n → getD (filled f n) i 0 ≡ f i
-unfolding filled
-filled-at f zero i l h = absurd (omega arith)
-filled-at f (suc n) i l h =
-    ⊎-elim
-    (λ e. rw e (getD-set-same (filled f n) n (f n) 0 (omega (arith, length-filled f n))))
-    (λ k. getD-set-other (filled f n) n i (f n) 0 (λ e. omega arith) ∙ filled-at f n i (omega arith) k)
-    (eq-or-lt-of-le {n = i} {m = n} (omega arith))
+  pub filled-at : (n i : ℕ) → n ≤ 8 → i < n → getD (filled d f n) i d ≡ f i
+  unfolding filled
+  filled-at zero i l h = absurd (omega arith)
+  filled-at (suc n) i l h =
+      ⊎-elim
+      (λ e. rw e (getD-set-same (filled d f n) n (f n) d (omega (arith, length-filled n))))
+      (λ k. getD-set-other (filled d f n) n i (f n) d (λ e. omega arith) ∙ filled-at n i (omega arith) k)
+      (eq-or-lt-of-le {n = i} {m = n} (omega arith))
 
-filled-rest : (f : ℕ → ℕ) (n i : ℕ) → n ≤ i → getD (filled f n) i 0 ≡ 0
-unfolding filled
-filled-rest f zero i l = ⊎-elim (getD-replicate 8 i 0 0) (λ k. List·getD-eq-default (replicate 8 0) 0 k) (below i 8)
-filled-rest f (suc n) i l = getD-set-other (filled f n) n i (f n) 0 (λ e. omega arith) ∙ filled-rest f n i (omega arith)
+  pub filled-rest : (n i : ℕ) → n ≤ i → getD (filled d f n) i d ≡ d
+  unfolding filled
+  filled-rest zero i l = ⊎-elim (getD-replicate 8 i d d) (λ k. List·getD-eq-default (replicate 8 d) d k) (below i 8)
+  filled-rest (suc n) i l = getD-set-other (filled d f n) n i (f n) d (λ e. omega arith) ∙ filled-rest n i (omega arith)
 
 laid-out : (l : Layout) → (1 ≤ l .frames) × (l .frames ≤ 8) → NonePast l → Tiles l (places l)
 unfolding start
@@ -49,15 +50,15 @@ laid-out l r fits = record {
   origin = at 0 (r .0);
   next = λ i h. rw (at (i + 1) h, at i (omega arith), size i (omega arith), add-one);
   within = λ i h. rw (at i h, size i h) (fits i h);
-  eight = (length-filled _ _, length-filled _ _);
-  rest = λ i h. (filled-rest _ _ i h, filled-rest _ _ i h);
+  eight = (length-filled _ _ _, length-filled _ _ _);
+  rest = λ i h. (filled-rest _ _ _ i h, filled-rest _ _ _ i h);
 }
   where
-    at : (i : ℕ) → i < l .frames → getD (filled (start (l .size)) (l .frames)) i 0 ≡ start (l .size) i
-    at i h = filled-at _ _ i (r .1) h
+    at : (i : ℕ) → i < l .frames → getD (filled 0 (start (l .size)) (l .frames)) i 0 ≡ start (l .size) i
+    at i h = filled-at _ _ _ i (r .1) h
 
-    size : (i : ℕ) → i < l .frames → getD (filled (l .size) (l .frames)) i 0 ≡ l .size i
-    size i h = filled-at _ _ i (r .1) h
+    size : (i : ℕ) → i < l .frames → getD (filled 0 (l .size) (l .frames)) i 0 ≡ l .size i
+    size i h = filled-at _ _ _ i (r .1) h
 
 module _ (s : List ℕ) where
   -- the index says how many frames there are, one to eight; without one there is one

@@ -18,8 +18,8 @@ pub record Walked (l : Layout) (i at : ℕ) (ats sizes : List ℕ) : Type 0 wher
   pub within : i ≤ l .frames
   pub room : at ≤ l .room
   pub here : at ≡ start (l .size) i
-  pub starts : ats ≡ filled (start (l .size)) i
-  pub sized : sizes ≡ filled (l .size) i
+  pub starts : ats ≡ filled 0 (start (l .size)) i
+  pub sized : sizes ≡ filled 0 (l .size) i
   pub same : first (λ j. ltb (l .room) (frameEnd l j)) i (l .frames - i) ≡ firstPast l
 
 pub walked-none : (l : Layout) → Walked l 0 0 (replicate 8 0) (replicate 8 0)

@@ -29,10 +29,10 @@ splitFrame (Past i) = i
 abbrev pub refused : Answer → Split
 refused a = record { answer = a; at = replicate 8 0; size = replicate 8 0 }
 
--- eight places, the first n of which hold f, and the others 0
-unfoldable pub filled : (ℕ → ℕ) → ℕ → List ℕ
-filled f zero = replicate 8 0
-filled f (suc n) = set (filled f n) n (f n)
+-- eight entries, the first n of which are f's, and the others d
+unfoldable pub filled : {A : Type 0} → A → (ℕ → A) → ℕ → List A
+filled d f zero = replicate 8 d
+filled d f (suc n) = set (filled d f n) n (f n)
 
 -- the first of the n numbers from i on that has p, or i + n if none has
 unfoldable pub first : (ℕ → Bool) → ℕ → ℕ → ℕ
@@ -44,7 +44,7 @@ unfoldable pub firstPast : Layout → ℕ
 firstPast l = first (λ i. ltb (l .room) (frameEnd l i)) 0 (l .frames)
 
 abbrev pub places : Layout → Split
-places l = record { answer = Frames (l .frames); at = filled (start (l .size)) (l .frames); size = filled (l .size) (l .frames) }
+places l = record { answer = Frames (l .frames); at = filled 0 (start (l .size)) (l .frames); size = filled 0 (l .size) (l .frames) }
 
 -- a frame that ends past the room is refused; else the frames' places
 unfoldable pub placed : Layout → Split
