@@ -7,7 +7,7 @@ use Rattle.chunk.proofs.parse_frames.Statement.{statement}
 use Rattle.chunk.proofs.parse_frames.Tie as tie
 
 abbrev Inv-loop : tie.InvT-loop
-Inv-loop chunk count st at size headers₀ state₀ i₀ headers state i = Walked chunk st count at size i headers state
+Inv-loop chunk count st at size headers₀ state₀ i₀ headers state i = Walked chunk state₀ count at size i headers state
 
 abbrev μ-loop : tie.MeasureT-loop
 μ-loop chunk count st at size headers₀ state₀ i₀ headers state i = count - i
