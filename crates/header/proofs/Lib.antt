@@ -2,5 +2,4 @@ pub mod Laws
 pub mod Outcomes
 pub mod Parts
 pub mod Whole
-pub mod Cases
 pub mod Theorems

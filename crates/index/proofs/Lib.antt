@@ -6,4 +6,3 @@ pub mod Table
 pub mod Tiles
 pub mod LastByte
 pub mod Spelling
-pub mod Examples

@@ -4,4 +4,3 @@ pub mod Records
 pub mod Laws
 pub mod Steps
 pub mod Exact
-pub mod Examples
