@@ -7,9 +7,10 @@ use Rattle.types.specs.declared.loop_filter.LoopFilterParams.{LoopFilterParams}
 use Rattle.types.specs.declared.segmentation.SegmentationParams.{SegmentationParams}
 use Rattle.types.specs.LoopFilterParams.{resetFilter, defaultFilter}
 use Rattle.clamp.specs.Clamp.{clampTo}
+use Rattle.levels.specs.Grid.{level}
+use Rattle.levels.specs.Levels.{moved, scaled, segmentLevel, pairOf, deltaGrid, levelsAt, levelsOf}
 use Rattle.segments.specs.Features.{featuresOf, featuresIn}
-use Rattle.segments.specs.Grid.{level}
-use Rattle.segments.specs.Levels.{moved, scaled, segmentLevel, pairOf, deltaGrid, levelsAt, levelsOf}
+use Rattle.segments.specs.Segmentation.{gridAfter}
 
 -- a frame's settings with the deltas as a reset leaves them
 abbrev frame : ℕ → LoopFilterParams
@@ -26,11 +27,11 @@ frame l =
     }
 
 module _ (s : SegmentationParams) (off : s .enabled ≡ false) (i : ℕ) (old : List (List ℕ)) where
-  pub level-31 : levelsOf (frame 31) (featuresOf s i) old ≡ (32 ∷ level old 0 1 ∷ []) ∷ (31 ∷ 31 ∷ []) ∷ (30 ∷ 30 ∷ []) ∷ (30 ∷ 30 ∷ []) ∷ []
+  pub level-31 : gridAfter (frame 31) (featuresOf s i) old ≡ (32 ∷ level old 0 1 ∷ []) ∷ (31 ∷ 31 ∷ []) ∷ (30 ∷ 30 ∷ []) ∷ (30 ∷ 30 ∷ []) ∷ []
   unfolding featuresOf featuresIn levelsOf levelsAt deltaGrid pairOf segmentLevel moved scaled clampTo
   level-31 = rw off
 
   -- from 32 on the deltas count twice
-  pub level-32 : levelsOf (frame 32) (featuresOf s i) old ≡ (34 ∷ level old 0 1 ∷ []) ∷ (32 ∷ 32 ∷ []) ∷ (30 ∷ 30 ∷ []) ∷ (30 ∷ 30 ∷ []) ∷ []
+  pub level-32 : gridAfter (frame 32) (featuresOf s i) old ≡ (34 ∷ level old 0 1 ∷ []) ∷ (32 ∷ 32 ∷ []) ∷ (30 ∷ 30 ∷ []) ∷ (30 ∷ 30 ∷ []) ∷ []
   unfolding featuresOf featuresIn levelsOf levelsAt deltaGrid pairOf segmentLevel moved scaled clampTo
   level-32 = rw off
