@@ -149,11 +149,14 @@ fn main() -> std::io::Result<()> {
     let mut out = std::io::BufWriter::new(std::io::stdout().lock());
     let mut segments: [Segmentation; MAX_SEGMENTS] = Default::default();
     while !input.0.is_empty() {
-        if input.byte() == 1 {
+        let kind = input.byte();
+        if kind == 1 {
             segments = std::array::from_fn(|_| input.segment());
         }
         let header = input.header();
-        Segmentation::update_segmentation(&mut segments, &header);
+        if kind != 2 {
+            Segmentation::update_segmentation(&mut segments, &header);
+        }
         for s in &segments {
             print(&mut out, s)?;
         }

@@ -1,6 +1,6 @@
 // Reads cases from standard input and prints the eight segment records after each, a line for each record.
-// A case starts with a byte: 0, the old records are those that the last case left; 1, eight old records follow. Then come the fields
-// of a header that the records follow from. A flag is a byte, 1 for set. A number with a sign is a byte, 0 for plus, 1 for minus, 2 for the
+// A case starts with a byte: 0, the old records are those that the last case left; 1, eight old records follow; 2, the last case's
+// records stay, so that the cost of a step can be told. Then come the fields of a header that the records follow from. A flag is a byte, 1 for set. A number with a sign is a byte, 0 for plus, 1 for minus, 2 for the
 // least number of its type, and its magnitude, high byte first.
 use enums::BitDepth;
 use enums::ColorRange;
@@ -259,9 +259,17 @@ fn print_segments(s: [Segmentation; 8]) {
     print_segment(s[7]);
 }
 
-fn renewed(old: [Segmentation; 8]) -> After {
+fn stepped(old: [Segmentation; 8], step: bool) -> [Segmentation; 8] {
     let h = header();
-    let segments = Segmentation::update_segmentation(old, h);
+    if step {
+        Segmentation::update_segmentation(old, h)
+    } else {
+        old
+    }
+}
+
+fn answered(old: [Segmentation; 8], step: bool) -> After {
+    let segments = stepped(old, step);
     print_segments(segments);
     After {
         segments,
@@ -271,8 +279,9 @@ fn renewed(old: [Segmentation; 8]) -> After {
 
 fn turn(last: [Segmentation; 8]) -> After {
     match byte() {
-        0 => renewed(last),
-        1 => renewed(old_segments()),
+        0 => answered(last, true),
+        1 => answered(old_segments(), true),
+        2 => answered(last, false),
         _ => After {
             segments: last,
             more: false,
