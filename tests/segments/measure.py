@@ -26,14 +26,14 @@ STEPS = 50
 STEP, STAY = b"\0", b"\2"
 
 
-def header(level, deltas, features, depth="Depth8"):
-    """Base 60 and the deltas of a reset, as in document 01's K; the features named are active in every segment."""
+def header(level, deltas, features, depth="Depth8", segments=8):
+    """Base 60 and the deltas of a reset, as in document 01's K; the features named are active in the first segments."""
     h = expect.default_header()
     h.bit_depth = expect.Name(depth)
     h.quant.base_q_idx = 60
     h.lf.level, h.lf.delta_enabled, h.lf.ref_deltas = level, deltas, [1, 0, -1, -1]
     h.seg.enabled = bool(features)
-    h.seg.feature_enabled = [[f in features for f in range(4)] for _ in range(8)]
+    h.seg.feature_enabled = [[i < segments and f in features for f in range(4)] for i in range(8)]
     h.seg.feature_data = [[-20, 3, 1, 0] for _ in range(8)]
     return h
 
@@ -45,6 +45,7 @@ HEADERS = (
     ("level 10, deltas, depth 10", header(10, True, (), "Depth10")),
     ("level 10, deltas, depth 12", header(10, True, (), "Depth12")),
     ("level 10, deltas, quantizer feature in all segments", header(10, True, (0,))),
+    ("level 10, deltas, level feature in two segments", header(10, True, (1,), segments=2)),
     ("level 10, deltas, level feature in all segments", header(10, True, (1,))),
     ("level 10, deltas, all features in all segments", header(10, True, (0, 1, 2, 3))),
     ("level 10, no deltas, all features in all segments", header(10, False, (0, 1, 2, 3))),

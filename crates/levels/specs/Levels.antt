@@ -1,4 +1,4 @@
--- The filter levels of a segment: VP9's section 8.8.1, with n by the frame's level.
+-- The filter levels of a segment: VP9's section 8.8.1. Kept from the source: n goes by the frame's level, where VP9 goes by the segment's.
 use Prim.Native.Nat.{ℕ, _/_, _^_}
 use mathlib.Core.Bool.{Bool}
 use mathlib.Core.List.{List, [], _∷_}
@@ -29,7 +29,7 @@ pairOf frame l reference modes = mode 0 ∷ mode 1 ∷ []
     mode : ℕ → ℕ
     mode m = moved l (scaled frame reference +ℤ scaled frame (getD modes m (pos 0)))
 
--- intra adds its delta alone and keeps its old level in mode 1
+-- intra has no modes: it adds its delta alone, and its second place keeps the old level, as in the source
 unfoldable pub deltaGrid : ℕ → ℕ → List ℤ → List ℤ → List (List ℕ) → List (List ℕ)
 deltaGrid frame l refs modes old =
     (moved l (scaled frame (reference 0)) ∷ level old 0 1 ∷ [])
