@@ -47,7 +47,7 @@ use Rattle.chunk.specs.Frames as Frames
 use Rattle.chunk.specs.Answer as Chunk
 use Rattle.clamp.specs.Clamp as Clamp
 use Rattle.segments.specs.Features as Features
-use Rattle.segments.specs.Levels as Levels
+use Rattle.levels.specs.Levels as Levels
 use Rattle.cases.specs.Table.{framesFrom, table, AllHold}
 
 pub all-hold : AllHold table

@@ -19,7 +19,7 @@ use Rattle.chunk.specs.declared.Answer.{Answer}
 use Rattle.chunk.specs.declared.Answer.the-variants as answer
 use Rattle.chunk.specs.Answer.{chunkNumber, chunkFrame, chunkOf}
 use Rattle.segments.specs.Features.{featuresOf}
-use Rattle.segments.specs.Levels.{levelsOf}
+use Rattle.segments.specs.Segmentation.{gridAfter}
 
 -- what is said of a frame: its place, and of its header the kind, the sizes, the quantizer's base, the refresh bits and the length
 pub record Frame : Type 0 where
@@ -89,7 +89,7 @@ resetAt l =
 
 -- the level of a reference in mode 0, from records of 0
 abbrev pub levelAt : ℕ → ℕ → ℕ
-levelAt l reference = getD (getD (levelsOf (resetAt l) (featuresOf defaultSegmentation 0) (replicate 4 (replicate 2 0))) reference []) 0 0
+levelAt l reference = getD (getD (gridAfter (resetAt l) (featuresOf defaultSegmentation 0) (replicate 4 (replicate 2 0))) reference []) 0 0
 
 pub data Case : Type 0 where
   -- a chunk from a state

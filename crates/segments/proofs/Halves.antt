@@ -5,14 +5,13 @@ use Rattle.enums.specs.declared.BitDepth.{BitDepth}
 use Rattle.types.specs.declared.header.Header.{Header}
 use Rattle.types.specs.declared.quantization.QuantizationParams.{QuantizationParams}
 use Rattle.types.specs.declared.segmentation.SegmentationParams.{SegmentationParams}
+use Rattle.levels.specs.Grid.{gridOf, rowOf}
 use Rattle.quant.specs.Quant.{qindex, dcQuant, acQuant, scalesAt, scalesOf}
 use Rattle.segments.specs.declared.entries.Entries.{Entries}
 use Rattle.segments.specs.declared.Segmentation.{Segmentation}
 use Rattle.segments.specs.Entries.{index, entriesWith, entriesOf}
 use Rattle.segments.specs.Features.{featuresOf, featuresIn}
-use Rattle.segments.specs.Grid.{gridOf, rowOf}
-use Rattle.segments.specs.Levels.{levelsOf}
-use Rattle.segments.specs.Segmentation.{segmentWith, segmentOf}
+use Rattle.segments.specs.Segmentation.{segmentWith, gridAfter, segmentOf}
 
 -- the scales are those of the dequantization functions
 pub scales-are : (depth : BitDepth) (q : QuantizationParams) (s : SegmentationParams) (i : ℕ)
@@ -42,6 +41,6 @@ module _ (h : Header) (i : ℕ) (old : Segmentation) where
   unfolding segmentOf segmentWith
   entries-by-header = refl
 
-  pub levels-by-levels : segmentOf h i old .«lvl_lookup» ≡ rowOf (levelsOf (h .lf) (featuresOf (h .seg) i) (gridOf (old .«lvl_lookup»)))
+  pub levels-by-levels : segmentOf h i old .«lvl_lookup» ≡ rowOf (gridAfter (h .lf) (featuresOf (h .seg) i) (gridOf (old .«lvl_lookup»)))
   unfolding segmentOf segmentWith
   levels-by-levels = refl

@@ -8,7 +8,7 @@ use Rattle.types.specs.declared.segmentation.SegmentationParams.{SegmentationPa
 use Rattle.types.specs.SegmentationParams.{featureIn}
 use Rattle.segments.specs.declared.features.Features.{Features}
 
--- by the flags enabled and abs_or_delta_update and the rows of bits and data: reference and skip report the enabled bits even where segmentation is off
+-- by the flags enabled and abs_or_delta_update and the rows of bits and data; as in the source, reference and skip report the enabled bits even where segmentation is off
 unfoldable pub featuresIn : Bool → Bool → List Bool → List ℤ → ℕ → Features
 featuresIn enabled absolute on values i =
     record {

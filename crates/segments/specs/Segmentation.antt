@@ -5,12 +5,13 @@ use mathlib.Core.List.{List}
 use lib.IntN.{pos}
 use lib.ListN.{replicate}
 use Rattle.types.specs.declared.header.Header.{Header}
+use Rattle.types.specs.declared.loop_filter.LoopFilterParams.{LoopFilterParams}
+use Rattle.levels.specs.Grid.{gridOf, rowOf}
+use Rattle.levels.specs.Levels.{levelsOf}
 use Rattle.segments.specs.declared.entries.Entries.{Entries}
 use Rattle.segments.specs.declared.features.Features.{Features}
 use Rattle.segments.specs.declared.Segmentation.{Segmentation}
 use Rattle.segments.specs.Features.{featuresOf}
-use Rattle.segments.specs.Grid.{gridOf, rowOf}
-use Rattle.segments.specs.Levels.{levelsOf}
 use Rattle.segments.specs.Entries.{entriesOf}
 
 abbrev pub defaultSegment : Segmentation
@@ -39,9 +40,13 @@ segmentWith levels e =
       «reference_skip_enabled» = e .«reference_skip_enabled»;
     }
 
+-- the levels of the segment with the features f
+abbrev pub gridAfter : LoopFilterParams → Features → List (List ℕ) → List (List ℕ)
+gridAfter lf f = levelsOf lf (f .«level_active») (f .absolute) (f .level)
+
 -- a record's levels follow from its own before the frame, its entries from the settings alone
 unfoldable pub segmentOf : Header → ℕ → Segmentation → Segmentation
-segmentOf h i old = segmentWith (rowOf (levelsOf (h .lf) f (gridOf (old .«lvl_lookup»)))) (entriesOf (h .«bit_depth») (h .quant) f)
+segmentOf h i old = segmentWith (rowOf (gridAfter (h .lf) f (gridOf (old .«lvl_lookup»)))) (entriesOf (h .«bit_depth») (h .quant) f)
   where
     f : Features
     f = featuresOf (h .seg) i

@@ -2,17 +2,15 @@
 ghost use mathlib.Core.Path.{_≡_};
 ghost use Rattle.segments.specs.Each.{each};
 ghost use Rattle.segments.specs.Segmentation.{defaultSegment, segmentWith, segmentOf};
-ghost use Rattle.segments.specs.Once.{renewed, segmentAt};
+ghost use Rattle.segments.specs.Once.{levelsAfter, renewed, segmentAt};
 
 mod entries;
 mod features;
-mod grid;
-mod levels;
 
 use entries::Entries;
 use enums::BitDepth;
 use features::Features;
-use grid::Grid;
+use levels::Grid;
 use quant::Scales;
 use tables::Table;
 use types::Header;
@@ -112,9 +110,18 @@ fn renew<'a>(
     ensures { λ r. ⌜ r ≡ renewed (now (dc .entry)) (now (ac .entry)) lf quant scales grid f old ⌝ }
 {
     let before = old.lvl_lookup;
-    let after = levels::levels_of(lf, grid, f, grid::grid_of(before));
+    let after = levels_after(lf, grid, f, before);
     let e = entries::entries_of(dc, ac, quant, scales, f);
-    segment_with(grid::row_of(after), e)
+    segment_with(after, e)
+}
+
+// The levels of a record after a frame that has the given levels itself.
+fn levels_after(lf: LoopFilterParams, frame: Grid, f: Features, old: [u8; 8]) -> [u8; 8]
+    ensures { λ r. ⌜ r ≡ levelsAfter lf frame f old ⌝ }
+{
+    let before = levels::grid_of(old);
+    let after = levels::levels_of(lf, frame, f.level_active, f.absolute, f.level, before);
+    levels::row_of(after)
 }
 
 fn segment_with(levels: [u8; 8], e: Entries) -> Segmentation
