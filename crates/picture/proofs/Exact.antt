@@ -3,9 +3,6 @@
 use mathlib.Core.Path.{_≡_, refl}
 use Rattle.bits.specs.Reader.{Got, got, refused}
 use Rattle.bits.proofs.Exact.{one-of}
-use Rattle.picture.specs.declared.Motion.{Motion}
-use Rattle.picture.specs.declared.MotionRead.{MotionRead}
-use Rattle.picture.specs.declared.MotionRead.the-variants.{Value as Moves, Short}
 use Rattle.picture.specs.declared.Picture.{Picture}
 use Rattle.picture.specs.declared.PictureRead.{PictureRead}
 use Rattle.picture.specs.declared.PictureRead.the-variants.{Value, Refused}
@@ -13,20 +10,7 @@ use Rattle.picture.specs.declared.Sources.{Sources}
 use Rattle.picture.specs.declared.SourcesRead.{SourcesRead}
 use Rattle.picture.specs.declared.SourcesRead.the-variants.{Value as Names, Short as NamesNone}
 use Rattle.picture.specs.Sources.{viewSources}
-use Rattle.picture.specs.Motion.{viewMotion}
 use Rattle.picture.specs.Picture.{viewPicture}
-
-asMotion : Got Motion → MotionRead
-asMotion (got a p) = Moves a (record { at = p })
-asMotion (refused e) = Short
-
-motion-back : (r : MotionRead) → asMotion (viewMotion r) ≡ r
-unfolding asMotion
-motion-back (Moves a c) = refl
-motion-back Short = refl
-
-pub one-motion : (r q : MotionRead) (x : Got Motion) → viewMotion r ≡ x → viewMotion q ≡ x → r ≡ q
-one-motion = one-of viewMotion asMotion motion-back
 
 asSources : Got Sources → SourcesRead
 asSources (got a p) = Names a (record { at = p })

@@ -10,10 +10,9 @@ use Rattle.bits.proofs.Fields.{size-append}
 use Rattle.start.proofs.Laws.{sync-reads, sync-size}
 use Rattle.color.proofs.Laws.{color-reads, color-size, intra-color-reads, intra-color-size}
 use Rattle.sizes.proofs.Laws.{sizes-reads, sizes-size, refs-reads, refs-size, size-with-refs-reads, size-with-refs-size}
-use Rattle.settings.proofs.Laws.{filter-reads, filter-size}
+use Rattle.motion.proofs.Laws.{motion-reads, motion-size}
 use Rattle.picture.specs.Key.{KeyValues, keyFields, KeyLacks, readKey}
 use Rattle.picture.specs.IntraOnly.{IntraOnlyValues, intraOnlyFields, IntraOnlyLacks, readIntraOnly}
-use Rattle.picture.specs.Motion.{MotionValues, motionFields, MotionLacks, readMotion}
 use Rattle.picture.specs.Sources.{SourcesValues, sourcesFields, readSources}
 use Rattle.picture.specs.Inter.{InterValues, interFields, InterLacks, readInter}
 
@@ -31,12 +30,6 @@ intra-only-reads profile =
     then (λ (v : IntraOnlyValues). v .color) (intra-color-reads profile) λ c.
     take (λ (v : IntraOnlyValues). v .refresh-frame-flags) λ r.
     last (λ (v : IntraOnlyValues). v .sizes) sizes-reads (λ a. (search)) (λ a. refl) (λ b k. rw (← (k .1), ← (k .0 .1), ← (k .0 .0 .1)))
-
-pub motion-reads : Reads Any MotionLacks motionFields readMotion
-unfolding motionFields MotionLacks readMotion
-motion-reads =
-    take (λ (v : MotionValues). v .allow-high-precision-mv) λ h.
-    last (λ (v : MotionValues). v .filter) filter-reads (λ a. (search)) (λ a. refl) (λ b k. rw (← (k .1)))
 
 pub sources-reads : Reads Any Any sourcesFields readSources
 unfolding sourcesFields readSources
@@ -58,10 +51,6 @@ key-size profile v = simp size-append (omega (arith, sync-size (v .frame-sync-co
 pub intra-only-size : (profile : ℕ) (v : IntraOnlyValues) → size (intraOnlyFields profile v) ≤ 105
 unfolding intraOnlyFields
 intra-only-size profile v = simp size-append (omega (arith, sync-size (v .frame-sync-code), intra-color-size profile (v .color), sizes-size (v .sizes)))
-
-pub motion-size : (v : MotionValues) → size (motionFields v) ≤ 4
-unfolding motionFields
-motion-size v = omega (arith, filter-size (v .filter))
 
 pub sources-size : (v : SourcesValues) → size (sourcesFields v) ≤ 20
 unfolding sourcesFields

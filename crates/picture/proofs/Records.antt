@@ -3,7 +3,6 @@
 use Prim.Native.Nat.{ℕ}
 use mathlib.Core.Path.{_≡_}
 use mathlib.Core.List.{List}
-use lib.Dec.{eqb}
 use mir.Val.{Fits}
 use mir.Syntax.{w8}
 use Rattle.bits.specs.declared.Bits.{Bits}
@@ -12,7 +11,6 @@ use Rattle.bits.specs.declared.Cursor.{Cursor}
 use Rattle.bits.specs.Read.{readBits}
 use Rattle.bits.specs.Reader.{got}
 use Rattle.bits.proofs.Steps.{value-lt}
-use Rattle.enums.specs.declared.InterpolationFilter.{InterpolationFilter}
 use Rattle.types.specs.declared.size.FrameSize.{FrameSize}
 use Rattle.color.specs.declared.Color.{Color}
 use Rattle.color.specs.Color.{ColorValues, colorOf}
@@ -22,13 +20,12 @@ use Rattle.sizes.specs.declared.Sizes.{Sizes}
 use Rattle.sizes.specs.Sizes.{SizesValues, sizesOf}
 use Rattle.sizes.specs.Refs.{RefsValues, refsOf}
 use Rattle.sizes.specs.SizeWithRefs.{SizeWithRefsValues, sizeWithRefsOf}
-use Rattle.settings.specs.Filter.{FilterValues, filterOf}
-use Rattle.picture.specs.declared.Motion.{Motion}
+use Rattle.motion.specs.declared.Motion.{Motion}
 use Rattle.picture.specs.declared.Picture.{Picture}
 use Rattle.picture.specs.Picture.{intraPicture}
 use Rattle.picture.specs.Key.{keyOf}
 use Rattle.picture.specs.IntraOnly.{intraOnlyOf}
-use Rattle.picture.specs.Motion.{MotionValues, motionOf}
+use Rattle.motion.specs.Motion.{MotionValues, motionOf}
 use Rattle.picture.specs.declared.Sources.{Sources}
 use Rattle.picture.specs.Sources.{SourcesValues, sourcesOf}
 use Rattle.picture.specs.Inter.{interOf}
@@ -45,11 +42,6 @@ pub intra-only-read : (profile n r p : ℕ) (x : Picture) (c : Color) (z : Sizes
     → got x p ≡ got (intraOnlyOf profile (record { frame-sync-code = n; color = a; refresh-frame-flags = r; sizes = b })) p
 unfolding intraOnlyOf
 intra-only-read profile n r p x c z a b ec ez ex = rw (ex, ec, ez)
-
-pub motion-read : (h p : ℕ) (f : InterpolationFilter) (a : FilterValues) → f ≡ filterOf a
-    → got (record { «allow_high_precision_mv» = eqb h 1; «interpolation_filter» = f }) p ≡ got (motionOf (record { allow-high-precision-mv = h; filter = a })) p
-unfolding motionOf
-motion-read h p f a e = rw e
 
 pub sources-read : (n p : ℕ) (x : Refs) (a : RefsValues) → x ≡ refsOf a
     → got (record { «refresh_frame_flags» = n; refs = x }) p ≡ got (sourcesOf (record { refresh-frame-flags = n; refs = a })) p

@@ -7,21 +7,10 @@ use Rattle.bits.specs.declared.Cursor.{Cursor}
 use Rattle.bits.specs.declared.Refusal.the-variants.{PastEnd}
 use Rattle.bits.specs.Reader.{Got, Read, refused, bind, over}
 use Rattle.bits.proofs.Steps.{group-step, group-stop}
-use Rattle.picture.specs.declared.Motion.{Motion}
-use Rattle.picture.specs.declared.MotionRead.{MotionRead}
-use Rattle.picture.specs.declared.MotionRead.the-variants.{Value as Moves, Short as Still}
 use Rattle.picture.specs.declared.Sources.{Sources}
 use Rattle.picture.specs.declared.SourcesRead.{SourcesRead}
 use Rattle.picture.specs.declared.SourcesRead.the-variants.{Value as Names, Short as NamesNone}
 use Rattle.picture.specs.Sources.{SourcesValues, readSources, sourcesOf, viewSources}
-use Rattle.picture.specs.Motion.{MotionValues, readMotion, motionOf, viewMotion}
-
-module _ {B D : Type 0} (s : List ℕ) (p : ℕ) (f : B → D) (r : MotionRead) (k : MotionValues → ℕ → Read B) (e : viewMotion r ≡ over motionOf (readMotion s p)) where
-  pub motion-step : (v : Motion) (c : Cursor) (o : Got D) → r ≡ Moves v c → ((a : MotionValues) → v ≡ motionOf a → o ≡ over f (k a (c .at))) → o ≡ over f (bind (readMotion s p) k)
-  motion-step v c o h t = group-step motionOf (readMotion s p) f k v (c .at) o (rw h at e) t
-
-  pub motion-stop : r ≡ Still → refused PastEnd ≡ over f (bind (readMotion s p) k)
-  motion-stop h = group-stop motionOf (readMotion s p) f k PastEnd (rw h at e)
 
 module _ {B D : Type 0} (s : List ℕ) (p : ℕ) (f : B → D) (r : SourcesRead) (k : SourcesValues → ℕ → Read B) (e : viewSources r ≡ over sourcesOf (readSources s p)) where
   pub sources-step : (v : Sources) (c : Cursor) (o : Got D) → r ≡ Names v c → ((a : SourcesValues) → v ≡ sourcesOf a → o ≡ over f (k a (c .at))) → o ≡ over f (bind (readSources s p) k)

@@ -8,7 +8,7 @@ use Rattle.color.specs.declared.Color.{Color}
 use Rattle.sizes.specs.Refs.{refsOf}
 use Rattle.sizes.specs.SizeWithRefs.{SizeWithRefsValues, noSizeWithRefs, sizeWithRefsFields, SizeWithRefsLacks, readSizeWithRefs, sizeWithRefsOf}
 use Rattle.picture.specs.Sources.{SourcesValues, noSources, sourcesFields, readSources, sourcesOf}
-use Rattle.picture.specs.Motion.{MotionValues, noMotion, motionFields, MotionLacks, readMotion, motionOf}
+use Rattle.motion.specs.Motion.{MotionValues, noMotion, motionFields, MotionLacks, readMotion, motionOf}
 use Rattle.picture.specs.declared.Picture.{Picture}
 
 pub record InterValues : Type 0 where

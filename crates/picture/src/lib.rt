@@ -4,7 +4,6 @@ ghost use Rattle.bits.specs.Reader.{over};
 ghost use Rattle.picture.specs.Key.{readKey, keyOf};
 ghost use Rattle.picture.specs.IntraOnly.{readIntraOnly, intraOnlyOf};
 ghost use Rattle.picture.specs.Sources.{readSources, sourcesOf, viewSources};
-ghost use Rattle.picture.specs.Motion.{readMotion, motionOf, viewMotion};
 ghost use Rattle.picture.specs.Inter.{readInter, interOf};
 ghost use Rattle.picture.specs.Picture.{intraPicture, viewPicture};
 use bits::Bits;
@@ -13,7 +12,8 @@ use bits::Refusal;
 use color::Color;
 use color::ColorRead;
 use enums::InterpolationFilter;
-use settings::FilterRead;
+use motion::Motion;
+use motion::MotionRead;
 use sizes::Ref;
 use sizes::Refs;
 use sizes::RefsRead;
@@ -21,16 +21,6 @@ use sizes::Sizes;
 use sizes::SizesRead;
 use start::SyncRead;
 use types::FrameSize;
-
-pub struct Motion {
-    pub allow_high_precision_mv: bool,
-    pub interpolation_filter: InterpolationFilter,
-}
-
-pub enum MotionRead {
-    Value(Motion, Cursor),
-    Short,
-}
 
 // The slots that a frame writes, one to a bit, and those that it reads.
 pub struct Sources {
@@ -121,24 +111,6 @@ pub fn parse_intra_only(s: &[u8], c: Cursor, profile: u32) -> PictureRead
     }
 }
 
-pub fn parse_motion(s: &[u8], c: Cursor) -> MotionRead
-    ensures { λ r. ⌜ viewMotion r ≡ over motionOf (readMotion (now (s .entry)) (c .at)) ⌝ }
-{
-    let Bits::Value(precise, c1) = bits::read_bits(s, c, 1) else {
-        return MotionRead::Short;
-    };
-    let FilterRead::Value(filter, c2) = settings::read_interpolation_filter(s, c1) else {
-        return MotionRead::Short;
-    };
-    MotionRead::Value(
-        Motion {
-            allow_high_precision_mv: precise == 1,
-            interpolation_filter: filter,
-        },
-        c2,
-    )
-}
-
 pub fn parse_sources(s: &[u8], c: Cursor) -> SourcesRead
     ensures { λ r. ⌜ viewSources r ≡ over sourcesOf (readSources (now (s .entry)) (c .at)) ⌝ }
 {
@@ -168,7 +140,7 @@ pub fn parse_inter(s: &[u8], c: Cursor, color: Color, slots: [FrameSize; 8]) -> 
     else {
         return PictureRead::Refused(Refusal::PastEnd);
     };
-    let MotionRead::Value(motion, c3) = parse_motion(s, c2) else {
+    let MotionRead::Value(motion, c3) = motion::parse_motion(s, c2) else {
         return PictureRead::Refused(Refusal::PastEnd);
     };
     PictureRead::Value(

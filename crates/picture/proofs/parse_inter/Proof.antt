@@ -1,7 +1,8 @@
 use Rattle.sizes.proofs.Steps.{size-with-refs-step, size-with-refs-stop}
 use Rattle.picture.specs.Inter.{readInter}
 use Rattle.picture.proofs.Records.{inter-read}
-use Rattle.picture.proofs.Steps.{sources-step, sources-stop, motion-step, motion-stop}
+use Rattle.motion.proofs.Steps.{motion-step, motion-stop}
+use Rattle.picture.proofs.Steps.{sources-step, sources-stop}
 use borrow.Author.Needs.{needs}
 use Rattle.picture.proofs.parse_inter.Statement.{statement}
 use Rattle.picture.proofs.parse_inter.Tie as tie

@@ -1,0 +1,2 @@
+pub mod LoopDeltas
+pub mod LoopFilter
