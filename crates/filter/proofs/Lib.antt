@@ -1,4 +1,3 @@
-pub mod Readings
 pub mod Records
 pub mod Laws
 pub mod Steps

@@ -1,2 +1,1 @@
-pub mod LoopDeltas
 pub mod LoopFilter

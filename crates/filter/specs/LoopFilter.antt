@@ -4,10 +4,9 @@ use Prim.Native.Nat.{ℕ}
 use mathlib.Core.List.{List, _∷_}
 use Rattle.bits.specs.Refusal.{the}
 use Rattle.bits.specs.Syntax.{Field, fld, flag, optional, Given}
-use Rattle.bits.specs.Reader.{Got, pick, Reader, give, _>>=_, field, groupIf, viewNext}
+use Rattle.bits.specs.Reader.{pick, Reader, give, _>>=_, field, groupIf}
 use Rattle.types.specs.declared.loop_filter.LoopFilterParams.{LoopFilterParams}
-use Rattle.filter.specs.declared.LoopFilterRead.{LoopFilterRead}
-use Rattle.filter.specs.LoopDeltas.{LoopDeltasValues, noLoopDeltas, loopDeltasFields, LoopDeltasLacks, readLoopDeltas, withFlags, loopDeltasOf}
+use Rattle.loop_deltas.specs.LoopDeltas.{LoopDeltasValues, noLoopDeltas, loopDeltasFields, LoopDeltasLacks, readLoopDeltas, withFlags, loopDeltasOf}
 
 pub record LoopFilterValues : Type 0 where
   pub level : ℕ
@@ -44,7 +43,3 @@ levelsOf old v = withFlags old (v .level) (v .sharpness) (flag (v .delta-enabled
 
 unfoldable pub loopFilterOf : LoopFilterParams → LoopFilterValues → LoopFilterParams
 loopFilterOf old v = pick (flag (v .delta-enabled)) (loopDeltasOf (levelsOf old v) (v .deltas)) (levelsOf old v)
-
--- the code's answer
-abbrev pub viewLoopFilter : LoopFilterRead → Got LoopFilterParams
-viewLoopFilter r = viewNext (r .lf) (r .next)

@@ -22,7 +22,7 @@ use Rattle.color.specs.declared.Color.{Color}
 use Rattle.picture.specs.declared.Picture.{Picture}
 use Rattle.picture.specs.Key.{readKey, keyOf}
 use Rattle.picture.specs.IntraOnly.{readIntraOnly, intraOnlyOf}
-use Rattle.picture.specs.Inter.{readInter, interOf}
+use Rattle.inter.specs.Inter.{readInter, interOf}
 use Rattle.lead.specs.declared.Shot.{Shot}
 use Rattle.lead.specs.Shot.{withKind, readShot, shotOf}
 

@@ -65,7 +65,7 @@ pub fn parse_shot(
     if kind.intra_only {
         with_kind(kind, picture::parse_intra_only(s, c1, profile))
     } else {
-        with_kind(kind, picture::parse_inter(s, c1, color, slots))
+        with_kind(kind, inter::parse_inter(s, c1, color, slots))
     }
 }
 

@@ -1,5 +1,3 @@
-pub mod Sources
 pub mod Picture
 pub mod Key
 pub mod IntraOnly
-pub mod Inter

@@ -1,7 +1,7 @@
 use Rattle.bits.proofs.Steps.{reading}
 use Rattle.filter.specs.LoopFilter.{readLoopFilter}
-use Rattle.filter.proofs.Readings.{group-left, group-taken, group-tail}
-use Rattle.filter.proofs.Steps.{settings-stop}
+use Rattle.loop_deltas.proofs.Readings.{group-left, group-taken, group-tail}
+use Rattle.loop_deltas.proofs.Steps.{settings-stop}
 use Rattle.filter.proofs.Records.{byte-fits, filter-moved, filter-plain}
 use borrow.Author.Needs.{needs}
 use Rattle.filter.proofs.parse_loop_filter_params.Statement.{statement}

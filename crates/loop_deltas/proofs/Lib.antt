@@ -1,0 +1,5 @@
+pub mod Readings
+pub mod Records
+pub mod Laws
+pub mod Steps
+pub mod Exact
