@@ -9,8 +9,8 @@ use Rattle.bits.specs.Syntax.{size}
 use Rattle.bits.specs.Reader.{read, pick, bind, groupIf}
 use Rattle.types.specs.declared.size.FrameSize.{FrameSize}
 use Rattle.types.specs.declared.state.ReaderState.{ReaderState}
-use Rattle.start.specs.Traits.{traitsOf}
-use Rattle.start.specs.Kind.{kindOf}
+use Rattle.traits.specs.Traits.{traitsOf}
+use Rattle.traits.specs.Kind.{kindOf}
 use Rattle.start.specs.Opening.{OpeningValues, readOpening, openingOf}
 use Rattle.sizes.specs.Sizes.{sizesOf, withRender}
 use Rattle.size_with_refs.specs.SizeWithRefs.{sizeWithRefsOf}

@@ -8,8 +8,8 @@ use Rattle.bits.specs.Syntax.{flag, size}
 use Rattle.bits.specs.Law.{Any, Reads}
 use Rattle.bits.proofs.Laws.{next, next-if, then, last, done, ends, respelt}
 use Rattle.bits.proofs.Fields.{size-append, size-optional}
-use Rattle.start.proofs.Laws.{traits-reads, traits-size, kind-reads, kind-size, context-reads, context-size}
-use Rattle.start.specs.Kind.{noKind, kindFields}
+use Rattle.traits.proofs.Laws.{traits-reads, traits-size, kind-reads, kind-size, context-reads, context-size}
+use Rattle.traits.specs.Kind.{noKind, kindFields}
 use Rattle.picture.specs.Key.{noKey, keyFields}
 use Rattle.picture.specs.IntraOnly.{noIntraOnly, intraOnlyFields}
 use Rattle.inter.specs.Inter.{noInter, interFields}

@@ -6,8 +6,8 @@ use mathlib.Core.List.{List, _++_}
 use Rattle.bits.specs.Syntax.{Field, flag, optional, Given}
 use Rattle.bits.specs.Reader.{Got, got, refused, pick, Reader, give, _>>=_, groupIf}
 use Rattle.types.specs.declared.size.FrameSize.{FrameSize}
-use Rattle.start.specs.Kind.{KindValues, noKind, kindFields, KindLacks, readKind, kindOf}
-use Rattle.start.specs.declared.Kind.{Kind}
+use Rattle.traits.specs.Kind.{KindValues, noKind, kindFields, KindLacks, readKind, kindOf}
+use Rattle.traits.specs.declared.Kind.{Kind}
 use Rattle.color.specs.declared.Color.{Color}
 use Rattle.sizes.specs.Size.{sizeOf}
 use Rattle.refs.specs.Refs.{refsOf}

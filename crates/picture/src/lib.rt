@@ -1,4 +1,4 @@
-// What a frame says of its picture: colour, sizes, references and motion; and the pictures that need no other, of key frames and intra-only frames.
+// What a frame says of its picture: colour, sizes, references and motion; and the pictures of key frames and intra-only frames.
 ghost use mathlib.Core.Path.{_≡_};
 ghost use Rattle.bits.specs.Reader.{over};
 ghost use Rattle.picture.specs.Key.{readKey, keyOf};

@@ -1,9 +1,9 @@
 use Rattle.bits.proofs.Steps.{reading}
-use Rattle.start.specs.Context.{readContext}
-use Rattle.start.proofs.Records.{idx-fits, context-read}
+use Rattle.traits.specs.Context.{readContext}
+use Rattle.traits.proofs.Records.{idx-fits, context-read}
 use borrow.Author.Needs.{needs}
-use Rattle.start.proofs.parse_context.Statement.{statement}
-use Rattle.start.proofs.parse_context.Tie as tie
+use Rattle.traits.proofs.parse_context.Statement.{statement}
+use Rattle.traits.proofs.parse_context.Tie as tie
 
 read-bits-if-requires : tie.Need-read-bits-if-requires
 read-bits-if-requires c κs = search needs

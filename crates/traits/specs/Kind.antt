@@ -7,9 +7,9 @@ use Rattle.bits.specs.Refusal.{the}
 use Rattle.bits.specs.Syntax.{Field, fld, flag, optional, Coded}
 use Rattle.bits.specs.Reader.{Got, got, refused, Reader, give, _>>=_, fieldIf}
 use Rattle.bits.specs.declared.Refusal.the-variants.{PastEnd}
-use Rattle.start.specs.declared.Kind.{Kind}
-use Rattle.start.specs.declared.KindRead.{KindRead}
-use Rattle.start.specs.declared.KindRead.the-variants.{Value, Short}
+use Rattle.traits.specs.declared.Kind.{Kind}
+use Rattle.traits.specs.declared.KindRead.{KindRead}
+use Rattle.traits.specs.declared.KindRead.the-variants.{Value, Short}
 
 pub record KindValues : Type 0 where
   pub intra-only : ℕ

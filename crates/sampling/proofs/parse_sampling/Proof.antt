@@ -1,9 +1,9 @@
 use Rattle.bits.proofs.Steps.{reading}
-use Rattle.color.specs.Sampling.{readSampling}
-use Rattle.color.proofs.Records.{sampling-read}
+use Rattle.sampling.specs.Sampling.{readSampling}
+use Rattle.sampling.proofs.Records.{sampling-read}
 use borrow.Author.Needs.{needs}
-use Rattle.color.proofs.parse_sampling.Statement.{statement}
-use Rattle.color.proofs.parse_sampling.Tie as tie
+use Rattle.sampling.proofs.parse_sampling.Statement.{statement}
+use Rattle.sampling.proofs.parse_sampling.Tie as tie
 
 read-bits-if-requires : tie.Need-read-bits-if-requires
 read-bits-if-requires c κs = search needs

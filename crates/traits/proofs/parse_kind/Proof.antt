@@ -1,9 +1,9 @@
 use Rattle.bits.proofs.Steps.{reading}
-use Rattle.start.specs.Kind.{readKind, kindOf}
-use Rattle.start.proofs.Records.{reset-fits}
+use Rattle.traits.specs.Kind.{readKind, kindOf}
+use Rattle.traits.proofs.Records.{reset-fits}
 use borrow.Author.Needs.{needs}
-use Rattle.start.proofs.parse_kind.Statement.{statement}
-use Rattle.start.proofs.parse_kind.Tie as tie
+use Rattle.traits.proofs.parse_kind.Statement.{statement}
+use Rattle.traits.proofs.parse_kind.Tie as tie
 
 read-bits-if-requires : tie.Need-read-bits-if-requires
 read-bits-if-requires c κs = search needs

@@ -7,9 +7,9 @@ use Rattle.bits.specs.Refusal.{the}
 use Rattle.bits.specs.Syntax.{Field, fld, flag, optional, Coded}
 use Rattle.bits.specs.Reader.{Got, got, refused, pick, Reader, give, _>>=_, field, fieldIf}
 use Rattle.bits.specs.declared.Refusal.the-variants.{PastEnd}
-use Rattle.start.specs.declared.Context.{Context}
-use Rattle.start.specs.declared.ContextRead.{ContextRead}
-use Rattle.start.specs.declared.ContextRead.the-variants.{Value, Short}
+use Rattle.traits.specs.declared.Context.{Context}
+use Rattle.traits.specs.declared.ContextRead.{ContextRead}
+use Rattle.traits.specs.declared.ContextRead.the-variants.{Value, Short}
 
 pub record ContextValues : Type 0 where
   pub refresh-frame-context : ℕ

@@ -7,9 +7,9 @@ use Rattle.bits.specs.Refusal.{the}
 use Rattle.bits.specs.Syntax.{Field, fld, flag}
 use Rattle.bits.specs.Reader.{Got, got, refused, Reader, give, _>>=_, field}
 use Rattle.bits.specs.declared.Refusal.the-variants.{PastEnd}
-use Rattle.start.specs.declared.Traits.{Traits}
-use Rattle.start.specs.declared.TraitsRead.{TraitsRead}
-use Rattle.start.specs.declared.TraitsRead.the-variants.{Value, Short}
+use Rattle.traits.specs.declared.Traits.{Traits}
+use Rattle.traits.specs.declared.TraitsRead.{TraitsRead}
+use Rattle.traits.specs.declared.TraitsRead.the-variants.{Value, Short}
 
 pub record TraitsValues : Type 0 where
   pub frame-type : ℕ

@@ -1,7 +1,7 @@
-use Rattle.start.proofs.Records.{parallel-read}
+use Rattle.traits.proofs.Records.{parallel-read}
 use borrow.Author.Needs.{needs}
-use Rattle.start.proofs.is_parallel.Statement.{statement}
-use Rattle.start.proofs.is_parallel.Tie as tie
+use Rattle.traits.proofs.is_parallel.Statement.{statement}
+use Rattle.traits.proofs.is_parallel.Tie as tie
 
 returns : tie.Need-returns
 returns c = search needs

@@ -1,6 +1,6 @@
 use borrow.Author.Needs.{needs}
-use Rattle.color.proofs.sampling_of.Statement.{statement}
-use Rattle.color.proofs.sampling_of.Tie as tie
+use Rattle.sampling.proofs.sampling_of.Statement.{statement}
+use Rattle.sampling.proofs.sampling_of.Tie as tie
 
 range-of-requires : tie.Need-range-of-requires
 range-of-requires c κs = search needs

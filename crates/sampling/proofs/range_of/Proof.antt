@@ -1,7 +1,7 @@
-use Rattle.color.proofs.Records.{picking}
+use Rattle.sampling.proofs.Records.{picking}
 use borrow.Author.Needs.{needs}
-use Rattle.color.proofs.range_of.Statement.{statement}
-use Rattle.color.proofs.range_of.Tie as tie
+use Rattle.sampling.proofs.range_of.Statement.{statement}
+use Rattle.sampling.proofs.range_of.Tie as tie
 
 of-bit-requires : tie.Need-of-bit-requires
 of-bit-requires c κs = search needs

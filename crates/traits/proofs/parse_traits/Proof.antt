@@ -1,8 +1,8 @@
 use Rattle.bits.proofs.Steps.{reading}
-use Rattle.start.specs.Traits.{readTraits, traitsOf}
+use Rattle.traits.specs.Traits.{readTraits, traitsOf}
 use borrow.Author.Needs.{needs}
-use Rattle.start.proofs.parse_traits.Statement.{statement}
-use Rattle.start.proofs.parse_traits.Tie as tie
+use Rattle.traits.proofs.parse_traits.Statement.{statement}
+use Rattle.traits.proofs.parse_traits.Tie as tie
 
 read-bits-requires : tie.Need-read-bits-requires
 read-bits-requires c κs = search needs

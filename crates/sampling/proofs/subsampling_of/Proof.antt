@@ -1,6 +1,6 @@
-use Rattle.color.proofs.Records.{picking}
-use Rattle.color.proofs.subsampling_of.Statement.{statement}
-use Rattle.color.proofs.subsampling_of.Tie as tie
+use Rattle.sampling.proofs.Records.{picking}
+use Rattle.sampling.proofs.subsampling_of.Statement.{statement}
+use Rattle.sampling.proofs.subsampling_of.Tie as tie
 
 returns : tie.Need-returns
 returns c = search picking

@@ -11,9 +11,9 @@ use Rattle.bits.specs.declared.Refusal.the-variants.{PastEnd}
 use Rattle.enums.specs.ColorRange.{colorRangeOf}
 use Rattle.enums.specs.declared.ColorRange.{ColorRange}
 use Rattle.enums.specs.declared.ColorRange.the-variants.{FullSwing}
-use Rattle.color.specs.declared.Sampling.{Sampling}
-use Rattle.color.specs.declared.SamplingRead.{SamplingRead}
-use Rattle.color.specs.declared.SamplingRead.the-variants.{Value, Short}
+use Rattle.sampling.specs.declared.Sampling.{Sampling}
+use Rattle.sampling.specs.declared.SamplingRead.{SamplingRead}
+use Rattle.sampling.specs.declared.SamplingRead.the-variants.{Value, Short}
 
 pub record SamplingValues : Type 0 where
   pub color-range : ℕ
