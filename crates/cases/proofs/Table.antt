@@ -6,30 +6,30 @@ use Rattle.bits.specs.Reader as Reader
 use Rattle.coded.specs.Delta as Delta
 use Rattle.coded.specs.Prob as Prob
 use Rattle.coded.specs.Run as Run
-use Rattle.start.specs.Context as Context
-use Rattle.start.specs.Kind as Kind
+use Rattle.traits.specs.Context as Context
+use Rattle.traits.specs.Kind as Kind
 use Rattle.start.specs.Opening as Opening
 use Rattle.start.specs.Profile as Profile
 use Rattle.start.specs.Sync as Sync
-use Rattle.start.specs.Traits as Traits
+use Rattle.traits.specs.Traits as Traits
 use Rattle.color.specs.Color as Color
-use Rattle.color.specs.Sampling as Sampling
-use Rattle.sizes.specs.Refs as Refs
+use Rattle.sampling.specs.Sampling as Sampling
+use Rattle.refs.specs.Refs as Refs
 use Rattle.sizes.specs.Render as Render
 use Rattle.sizes.specs.Size as Size
-use Rattle.sizes.specs.SizeWithRefs as SizeWithRefs
+use Rattle.size_with_refs.specs.SizeWithRefs as SizeWithRefs
 use Rattle.sizes.specs.Sizes as Sizes
-use Rattle.settings.specs.Filter as Filter
-use Rattle.settings.specs.LoopDeltas as LoopDeltas
-use Rattle.settings.specs.LoopFilter as LoopFilter
-use Rattle.settings.specs.Quantizer as Quantizer
+use Rattle.motion.specs.Filter as Filter
+use Rattle.loop_deltas.specs.LoopDeltas as LoopDeltas
+use Rattle.filter.specs.LoopFilter as LoopFilter
+use Rattle.quantizer.specs.Quantizer as Quantizer
 use Rattle.segmentation.specs.Segmentation as Segmentation
 use Rattle.tiles.specs.Limits as Limits
 use Rattle.tiles.specs.Tiles as Tiles
-use Rattle.picture.specs.Inter as Inter
+use Rattle.inter.specs.Inter as Inter
 use Rattle.picture.specs.Key as Key
-use Rattle.picture.specs.Motion as Motion
-use Rattle.picture.specs.Sources as Sources
+use Rattle.motion.specs.Motion as Motion
+use Rattle.refs.specs.Sources as Sources
 use Rattle.lead.specs.Lead as Lead
 use Rattle.lead.specs.Shot as Shot
 use Rattle.tail.specs.Closing as Closing
@@ -74,5 +74,6 @@ unfolding
     State.frameState State.stateAfter Little.little Layout.announced Layout.cut Layout.indexed Layout.layoutOf
     Layout.start Split.filled Split.first Split.firstPast Split.placed Split.splitOf Frames.stateBefore
     Frames.frameRead Frames.firstFault Chunk.chunkOf Features.featuresOf Features.featuresIn Levels.levelsOf
-    Levels.levelsAt Levels.deltaGrid Levels.pairOf Levels.segmentLevel Levels.moved Levels.scaled Clamp.clampTo framesFrom
+    Levels.levelsAt Levels.deltaGrid Levels.pairOf Levels.segmentLevel Levels.moved Levels.scaled Clamp.clampTo
+    framesFrom
 all-hold = (refl, (refl, (refl, (refl, (refl, (refl, (refl, (refl, (refl, ((refl, refl), ((refl, refl), ((refl, refl), ((refl, refl), ((refl, refl, refl), ((refl, refl, refl), tt)))))))))))))))

@@ -3,39 +3,16 @@
 use Prim.Native.Nat.{ℕ, _≤_, _<_}
 use mathlib.Core.Path.{_≡_}
 use mathlib.Core.List.{List}
-use lib.Dec.{eqb, leb}
-use borrow.Author.Tests.{eq-eqb, ne-eqb, le-leb, lt-leb, lt-ltb, le-ltb}
-use Rattle.bits.specs.Reader.{pick, got, over, groupIf}
+use borrow.Author.Tests.{lt-ltb, le-ltb}
+use Rattle.bits.specs.Reader.{got, over, groupIf}
 use Rattle.enums.specs.ColorSpace.{colorSpaceOf}
 use Rattle.enums.specs.declared.BitDepth.{BitDepth}
 use Rattle.enums.specs.declared.ColorSpace.{ColorSpace}
-use Rattle.color.specs.declared.Sampling.{Sampling}
+use Rattle.sampling.specs.declared.Sampling.{Sampling}
 use Rattle.color.specs.declared.ColorRead.{ColorRead}
-use Rattle.color.specs.Sampling.{SamplingValues, rangeOf, subsampling, samplingOf}
+use Rattle.sampling.specs.Sampling.{SamplingValues, samplingOf}
 use Rattle.color.specs.Color.{depthOf, readColor, colorOf, viewColor}
 use Rattle.color.specs.Intra.{fixedColor, readIntraColor, intraColorOf}
-
--- a choice by a test, as a step along the branch that the code took
-module _ {A : Type 0} (a b : ℕ) (x p q : A) where
-  pub equal : a ≡ b → x ≡ p → x ≡ pick (eqb a b) p q
-  equal e h = rw (eq-eqb a b e) h
-
-  pub different : (a ≡ b → ⊥) → x ≡ q → x ≡ pick (eqb a b) p q
-  different e h = rw (ne-eqb a b e) h
-
-  pub reached : a ≤ b → x ≡ p → x ≡ pick (leb a b) p q
-  reached e h = rw (le-leb a b e) h
-
-  pub missed : b < a → x ≡ q → x ≡ pick (leb a b) p q
-  missed e h = rw (lt-leb a b e) h
-
-pub ruleset picking = (equal, different, reached, missed)
-
-pub sampling-read : (profile space r x y z p : ℕ) (a : Sampling)
-    → a ≡ record { «color_range» = rangeOf space r; «subsampling_x» = subsampling profile space x; «subsampling_y» = subsampling profile space y }
-    → got a p ≡ got (samplingOf profile space (record { color-range = r; subsampling-x = x; subsampling-y = y; reserved-zero = z })) p
-unfolding samplingOf
-sampling-read profile space r x y z p a h = rw h
 
 pub color-read : (profile d n p : ℕ) (v : SamplingValues) (depth : BitDepth) (space : ColorSpace) (a : Sampling) → depth ≡ depthOf profile d → space ≡ colorSpaceOf n → a ≡ samplingOf profile n v
     → got (record { «bit_depth» = depth; «color_space» = space; «color_range» = a .«color_range»; «subsampling_x» = a .«subsampling_x»; «subsampling_y» = a .«subsampling_y» }) p

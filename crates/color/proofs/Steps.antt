@@ -1,4 +1,4 @@
--- What a caller of `parse_sampling`, `parse_color_config` and `parse_intra_color` learns, as steps along its own reading.
+-- What a caller of `parse_color_config` and `parse_intra_color` learns, as steps along its own reading.
 -- Assumes nothing.
 use Prim.Native.Nat.{ℕ}
 use mathlib.Core.Path.{_≡_}
@@ -10,35 +10,19 @@ use Rattle.bits.specs.declared.Cursor.{Cursor}
 use Rattle.bits.specs.declared.Refusal.the-variants.{PastEnd}
 use Rattle.bits.specs.Reader.{Got, Read, refused, bind, over}
 use Rattle.bits.proofs.Steps.{group-step, group-stop}
-use Rattle.color.specs.declared.Sampling.{Sampling}
-use Rattle.color.specs.declared.SamplingRead.{SamplingRead}
-use Rattle.color.specs.declared.SamplingRead.the-variants.{Value as Sampled, Short as Unsampled}
 use Rattle.color.specs.declared.Color.{Color}
 use Rattle.color.specs.declared.ColorRead.{ColorRead}
 use Rattle.color.specs.declared.ColorRead.the-variants.{Value, Short}
-use Rattle.color.specs.Sampling.{SamplingValues, readSampling, samplingOf, viewSampling}
 use Rattle.color.specs.Color.{ColorValues, readColor, colorOf, viewColor}
 use Rattle.color.specs.Intra.{readIntraColor, intraColorOf}
-use Rattle.color.proofs.SamplingRead.{the-type as the-sampling}
 use Rattle.color.proofs.ColorRead.{the-type}
-
-no-sampling : {x : Got Sampling} (r : SamplingRead) → viewSampling r ≡ x → OneOf (1 ∷ []) (tagOf the-sampling r) → refused PastEnd ≡ x
-no-sampling (Sampled a c) e h = absurd (omega (arith, h))
-no-sampling Unsampled e h = e
 
 no-color : {x : Got Color} (r : ColorRead) → viewColor r ≡ x → OneOf (1 ∷ []) (tagOf the-type r) → refused PastEnd ≡ x
 no-color (Value a c) e h = absurd (omega (arith, h))
 no-color Short e h = e
 
--- n and i are the profile and colour space of the call, m and j those of the caller's reading
+-- n is the profile of the call, m that of the caller's reading
 module _ {B D : Type 0} (s : List ℕ) (p : ℕ) (f : B → D) (n m : ℕ) (profile : n ≡ m) where
-  module _ (i j : ℕ) (space : i ≡ j) (r : SamplingRead) (k : SamplingValues → ℕ → Read B) (e : viewSampling r ≡ over (samplingOf n i) (readSampling n i s p)) where
-    pub sampling-step : (a : Sampling) (c : Cursor) (o : Got D) → r ≡ Sampled a c → ((v : SamplingValues) → a ≡ samplingOf m j v → o ≡ over f (k v (c .at))) → o ≡ over f (bind (readSampling m j s p) k)
-    sampling-step a c o h t = group-step (samplingOf m j) (readSampling m j s p) f k a (c .at) o (rw (h, profile, space) at e) t
-
-    pub sampling-stop : OneOf (1 ∷ []) (tagOf the-sampling r) → refused PastEnd ≡ over f (bind (readSampling m j s p) k)
-    sampling-stop h = group-stop (samplingOf m j) (readSampling m j s p) f k PastEnd (no-sampling r (rw (profile, space) at e) h)
-
   module _ (r : ColorRead) (k : ColorValues → ℕ → Read B) where
     module _ (e : viewColor r ≡ over (colorOf n) (readColor n s p)) where
       pub color-step : (a : Color) (c : Cursor) (o : Got D) → r ≡ Value a c → ((v : ColorValues) → a ≡ colorOf m v → o ≡ over f (k v (c .at))) → o ≡ over f (bind (readColor m s p) k)

@@ -11,7 +11,7 @@ use Rattle.bits.specs.declared.Refusal.the-variants.{PastEnd}
 use Rattle.enums.specs.ColorSpace.{colorSpaceOf}
 use Rattle.enums.specs.declared.BitDepth.{BitDepth}
 use Rattle.enums.specs.declared.BitDepth.the-variants.{Depth8, Depth10, Depth12}
-use Rattle.color.specs.Sampling.{SamplingValues, noSampling, samplingFields, SamplingLacks, readSampling, samplingOf}
+use Rattle.sampling.specs.Sampling.{SamplingValues, noSampling, samplingFields, SamplingLacks, readSampling, samplingOf}
 use Rattle.color.specs.declared.Color.{Color}
 use Rattle.color.specs.declared.ColorRead.{ColorRead}
 use Rattle.color.specs.declared.ColorRead.the-variants.{Value, Short}

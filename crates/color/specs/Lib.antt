@@ -1,3 +1,2 @@
-pub mod Sampling
 pub mod Color
 pub mod Intra

@@ -1,7 +1,6 @@
 // color_config(): depth, colour space, range and subsampling.
 ghost use mathlib.Core.Path.{_≡_};
 ghost use Rattle.bits.specs.Reader.{over};
-ghost use Rattle.color.specs.Sampling.{rangeOf, subsampling, readSampling, samplingOf, viewSampling};
 ghost use Rattle.color.specs.Color.{depthOf, readColor, colorOf, viewColor};
 ghost use Rattle.color.specs.Intra.{readIntraColor, intraColorOf};
 use bits::Bits;
@@ -9,71 +8,7 @@ use bits::Cursor;
 use enums::BitDepth;
 use enums::ColorRange;
 use enums::ColorSpace;
-
-// The colour space RGB, which codes neither range nor subsampling.
-const CS_RGB: u32 = 7;
-
-pub struct Sampling {
-    pub color_range: ColorRange,
-    pub subsampling_x: bool,
-    pub subsampling_y: bool,
-}
-
-pub enum SamplingRead {
-    Value(Sampling, Cursor),
-    Short,
-}
-
-// RGB has the full range.
-fn range_of(space: u32, bit: u32) -> ColorRange
-    ensures { λ r. ⌜ r ≡ rangeOf space bit ⌝ }
-{
-    if space == CS_RGB {
-        ColorRange::FullSwing
-    } else {
-        ColorRange::of_bit(bit)
-    }
-}
-
-// RGB isn't subsampled; any other space is, unless its bit says no.
-fn subsampling_of(profile: u32, space: u32, bit: u32) -> bool
-    ensures { λ r. ⌜ r ≡ subsampling profile space bit ⌝ }
-{
-    if space == CS_RGB {
-        return false;
-    }
-    if profile % 2 == 1 { bit == 1 } else { true }
-}
-
-fn sampling_of(profile: u32, space: u32, range: u32, x: u32, y: u32) -> Sampling
-    ensures { λ r. ⌜ r ≡ record { «color_range» = rangeOf space range; «subsampling_x» = subsampling profile space x; «subsampling_y» = subsampling profile space y } ⌝ }
-{
-    Sampling {
-        color_range: range_of(space, range),
-        subsampling_x: subsampling_of(profile, space, x),
-        subsampling_y: subsampling_of(profile, space, y),
-    }
-}
-
-// What color_config() has after color_space.
-pub fn parse_sampling(s: &[u8], c: Cursor, profile: u32, space: u32) -> SamplingRead
-    ensures { λ r. ⌜ viewSampling r ≡ over (samplingOf profile space) (readSampling profile space (now (s .entry)) (c .at)) ⌝ }
-{
-    let coded = (space != CS_RGB) & (profile % 2 == 1);
-    let Bits::Value(range, c1) = bits::read_bits_if(s, c, space != CS_RGB, 1) else {
-        return SamplingRead::Short;
-    };
-    let Bits::Value(x, c2) = bits::read_bits_if(s, c1, coded, 1) else {
-        return SamplingRead::Short;
-    };
-    let Bits::Value(y, c3) = bits::read_bits_if(s, c2, coded, 1) else {
-        return SamplingRead::Short;
-    };
-    let Bits::Value(_, c4) = bits::read_bits_if(s, c3, profile % 2 == 1, 1) else {
-        return SamplingRead::Short;
-    };
-    SamplingRead::Value(sampling_of(profile, space, range, x, y), c4)
-}
+use sampling::SamplingRead;
 
 pub struct Color {
     pub bit_depth: BitDepth,
@@ -111,7 +46,7 @@ pub fn parse_color_config(s: &[u8], c: Cursor, profile: u32) -> ColorRead
     let Bits::Value(space, c2) = bits::read_bits(s, c1, 3) else {
         return ColorRead::Short;
     };
-    let SamplingRead::Value(sampling, c3) = parse_sampling(s, c2, profile, space) else {
+    let SamplingRead::Value(sampling, c3) = sampling::parse_sampling(s, c2, profile, space) else {
         return ColorRead::Short;
     };
     let color_range = sampling.color_range;

@@ -9,15 +9,15 @@ use Rattle.bits.specs.Syntax.{size}
 use Rattle.bits.specs.Reader.{read, pick, bind, groupIf}
 use Rattle.types.specs.declared.size.FrameSize.{FrameSize}
 use Rattle.types.specs.declared.state.ReaderState.{ReaderState}
-use Rattle.start.specs.Traits.{traitsOf}
-use Rattle.start.specs.Kind.{kindOf}
+use Rattle.traits.specs.Traits.{traitsOf}
+use Rattle.traits.specs.Kind.{kindOf}
 use Rattle.start.specs.Opening.{OpeningValues, readOpening, openingOf}
 use Rattle.sizes.specs.Sizes.{sizesOf, withRender}
-use Rattle.sizes.specs.SizeWithRefs.{sizeWithRefsOf}
+use Rattle.size_with_refs.specs.SizeWithRefs.{sizeWithRefsOf}
 use Rattle.color.specs.declared.Color.{Color}
 use Rattle.picture.specs.Key.{keyOf}
 use Rattle.picture.specs.IntraOnly.{intraOnlyOf}
-use Rattle.picture.specs.Inter.{interOf}
+use Rattle.inter.specs.Inter.{interOf}
 use Rattle.lead.specs.declared.Lead.{Lead}
 use Rattle.lead.specs.Shot.{ShotValues, isIntraOnly, shotSize, shotOf}
 use Rattle.lead.specs.Lead.{LeadValues, readLead, isIndependent, leadOf}

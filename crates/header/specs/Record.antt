@@ -21,7 +21,7 @@ use Rattle.types.specs.declared.state.ReaderState.{ReaderState}
 use Rattle.start.specs.declared.Opening.{Opening}
 use Rattle.start.specs.Opening.{openingOf}
 use Rattle.color.specs.declared.Color.{Color}
-use Rattle.settings.specs.Quantizer.{lossless}
+use Rattle.quantizer.specs.Quantizer.{lossless}
 use Rattle.lead.specs.declared.Lead.{Lead}
 use Rattle.lead.specs.Lead.{leadOf, isIndependent}
 use Rattle.tail.specs.declared.Settings.{Settings}

@@ -200,7 +200,7 @@ fn frame_header(profile: u32, l: Lead, g: Settings, c: Closing, bytes: u16) -> H
         seg,
         tile_cols_log2: c.tiles.cols_log2,
         tile_rows_log2: c.tiles.rows_log2,
-        lossless: settings::is_lossless(quant),
+        lossless: quantizer::is_lossless(quant),
         header_size_in_bytes: c.header_size_in_bytes,
         uncompressed_header_size_in_bytes: bytes,
     }

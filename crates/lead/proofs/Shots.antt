@@ -10,11 +10,11 @@ use Rattle.bits.specs.Syntax.{flag}
 use Rattle.bits.specs.Reader.{Got, Read, got, refused, over, alter, groupIf}
 use Rattle.bits.proofs.Steps.{group-step, group-stop, tail, alter-over}
 use Rattle.types.specs.declared.size.FrameSize.{FrameSize}
-use Rattle.start.specs.declared.Kind.{Kind}
+use Rattle.traits.specs.declared.Kind.{Kind}
 use Rattle.bits.specs.declared.Cursor.{Cursor}
-use Rattle.start.specs.declared.KindRead.{KindRead}
-use Rattle.start.specs.declared.KindRead.the-variants.{Value, Short}
-use Rattle.start.specs.Kind.{readKind, kindOf, viewKind}
+use Rattle.traits.specs.declared.KindRead.{KindRead}
+use Rattle.traits.specs.declared.KindRead.the-variants.{Value, Short}
+use Rattle.traits.specs.Kind.{readKind, kindOf, viewKind}
 use Rattle.picture.specs.declared.PictureRead.{PictureRead}
 use Rattle.picture.specs.declared.PictureRead.the-variants.{Value as Shows, Refused as ShowsNot}
 use Rattle.picture.specs.Picture.{viewPicture}
@@ -22,7 +22,7 @@ use Rattle.color.specs.declared.Color.{Color}
 use Rattle.picture.specs.declared.Picture.{Picture}
 use Rattle.picture.specs.Key.{readKey, keyOf}
 use Rattle.picture.specs.IntraOnly.{readIntraOnly, intraOnlyOf}
-use Rattle.picture.specs.Inter.{readInter, interOf}
+use Rattle.inter.specs.Inter.{readInter, interOf}
 use Rattle.lead.specs.declared.Shot.{Shot}
 use Rattle.lead.specs.Shot.{withKind, readShot, shotOf}
 

@@ -8,10 +8,10 @@ use Rattle.bits.specs.declared.Refusal.{Refusal}
 use Rattle.bits.specs.Reader.{Got, Read, got, refused, bind, over}
 use Rattle.bits.proofs.Steps.{group-step, group-stop}
 use Rattle.types.specs.declared.size.FrameSize.{FrameSize}
-use Rattle.start.specs.declared.Traits.{Traits}
-use Rattle.start.specs.declared.Context.{Context}
-use Rattle.start.specs.Traits.{TraitsValues, traitsOf}
-use Rattle.start.specs.Context.{ContextValues, contextOf}
+use Rattle.traits.specs.declared.Traits.{Traits}
+use Rattle.traits.specs.declared.Context.{Context}
+use Rattle.traits.specs.Traits.{TraitsValues, traitsOf}
+use Rattle.traits.specs.Context.{ContextValues, contextOf}
 use Rattle.color.specs.declared.Color.{Color}
 use Rattle.lead.specs.declared.Shot.{Shot}
 use Rattle.lead.specs.declared.ShotRead.{ShotRead}

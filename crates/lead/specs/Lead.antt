@@ -7,8 +7,8 @@ use lib.Dec.{eqb}
 use Rattle.bits.specs.Syntax.{Field, flag}
 use Rattle.bits.specs.Reader.{Got, got, refused, Reader, give, _>>=_}
 use Rattle.types.specs.declared.size.FrameSize.{FrameSize}
-use Rattle.start.specs.Traits.{TraitsValues, noTraits, traitsFields, readTraits, traitsOf}
-use Rattle.start.specs.Context.{ContextValues, noContext, contextFields, ContextLacks, readContext, contextOf}
+use Rattle.traits.specs.Traits.{TraitsValues, noTraits, traitsFields, readTraits, traitsOf}
+use Rattle.traits.specs.Context.{ContextValues, noContext, contextFields, ContextLacks, readContext, contextOf}
 use Rattle.color.specs.declared.Color.{Color}
 use Rattle.lead.specs.Shot.{ShotValues, noShot, isIntraOnly, shotFields, ShotLacks, readShot, shotSize, shotOf}
 use Rattle.lead.specs.declared.Lead.{Lead}

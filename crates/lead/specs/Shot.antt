@@ -6,16 +6,16 @@ use mathlib.Core.List.{List, _++_}
 use Rattle.bits.specs.Syntax.{Field, flag, optional, Given}
 use Rattle.bits.specs.Reader.{Got, got, refused, pick, Reader, give, _>>=_, groupIf}
 use Rattle.types.specs.declared.size.FrameSize.{FrameSize}
-use Rattle.start.specs.Kind.{KindValues, noKind, kindFields, KindLacks, readKind, kindOf}
-use Rattle.start.specs.declared.Kind.{Kind}
+use Rattle.traits.specs.Kind.{KindValues, noKind, kindFields, KindLacks, readKind, kindOf}
+use Rattle.traits.specs.declared.Kind.{Kind}
 use Rattle.color.specs.declared.Color.{Color}
 use Rattle.sizes.specs.Size.{sizeOf}
-use Rattle.sizes.specs.Refs.{refsOf}
-use Rattle.sizes.specs.SizeWithRefs.{foundSize}
+use Rattle.refs.specs.Refs.{refsOf}
+use Rattle.size_with_refs.specs.SizeWithRefs.{foundSize}
 use Rattle.picture.specs.declared.Picture.{Picture}
 use Rattle.picture.specs.Key.{KeyValues, noKey, keyFields, KeyLacks, readKey, keyOf}
 use Rattle.picture.specs.IntraOnly.{IntraOnlyValues, noIntraOnly, intraOnlyFields, IntraOnlyLacks, readIntraOnly, intraOnlyOf}
-use Rattle.picture.specs.Inter.{InterValues, noInter, interFields, InterLacks, readInter, interOf}
+use Rattle.inter.specs.Inter.{InterValues, noInter, interFields, InterLacks, readInter, interOf}
 use Rattle.lead.specs.declared.Shot.{Shot}
 use Rattle.lead.specs.declared.ShotRead.{ShotRead}
 use Rattle.lead.specs.declared.ShotRead.the-variants.{Value, Refused}

@@ -9,12 +9,12 @@ use bits::Refusal;
 use color::Color;
 use picture::Picture;
 use picture::PictureRead;
-use start::Context;
-use start::ContextRead;
-use start::Kind;
-use start::KindRead;
-use start::Traits;
-use start::TraitsRead;
+use traits::Context;
+use traits::ContextRead;
+use traits::Kind;
+use traits::KindRead;
+use traits::Traits;
+use traits::TraitsRead;
 use types::FrameSize;
 
 pub struct Shot {
@@ -54,7 +54,7 @@ pub fn parse_shot(
         };
         return with_kind(kind, picture::parse_key(s, c, profile));
     }
-    let KindRead::Value(kind, c1) = start::parse_kind(
+    let KindRead::Value(kind, c1) = traits::parse_kind(
         s,
         c,
         traits.show_frame,
@@ -65,7 +65,7 @@ pub fn parse_shot(
     if kind.intra_only {
         with_kind(kind, picture::parse_intra_only(s, c1, profile))
     } else {
-        with_kind(kind, picture::parse_inter(s, c1, color, slots))
+        with_kind(kind, inter::parse_inter(s, c1, color, slots))
     }
 }
 
@@ -89,13 +89,13 @@ pub fn parse_lead(
 ) -> LeadRead
     ensures { λ r. ⌜ viewLead r ≡ over (leadOf profile color slots) (readLead profile (now (s .entry)) (c .at)) ⌝ }
 {
-    let TraitsRead::Value(traits, c1) = start::parse_traits(s, c) else {
+    let TraitsRead::Value(traits, c1) = traits::parse_traits(s, c) else {
         return LeadRead::Refused(Refusal::PastEnd);
     };
     match parse_shot(s, c1, profile, traits, color, slots) {
         ShotRead::Refused(e) => LeadRead::Refused(e),
         ShotRead::Value(shot, c2) => {
-            let ContextRead::Value(context, c3) = start::parse_context(
+            let ContextRead::Value(context, c3) = traits::parse_context(
                 s,
                 c2,
                 traits.error_resilient_mode,

@@ -1,4 +1,4 @@
--- The laws of the three kinds of picture, and how many bits each can have.
+-- The laws of the pictures, and how many bits each can have.
 -- Assumes nothing.
 use Prim.Native.Nat.{ℕ, _≤_}
 use mathlib.Core.Path.{refl}
@@ -9,13 +9,9 @@ use Rattle.bits.proofs.Laws.{take, then, next, last}
 use Rattle.bits.proofs.Fields.{size-append}
 use Rattle.start.proofs.Laws.{sync-reads, sync-size}
 use Rattle.color.proofs.Laws.{color-reads, color-size, intra-color-reads, intra-color-size}
-use Rattle.sizes.proofs.Laws.{sizes-reads, sizes-size, refs-reads, refs-size, size-with-refs-reads, size-with-refs-size}
-use Rattle.settings.proofs.Laws.{filter-reads, filter-size}
+use Rattle.sizes.proofs.Laws.{sizes-reads, sizes-size}
 use Rattle.picture.specs.Key.{KeyValues, keyFields, KeyLacks, readKey}
 use Rattle.picture.specs.IntraOnly.{IntraOnlyValues, intraOnlyFields, IntraOnlyLacks, readIntraOnly}
-use Rattle.picture.specs.Motion.{MotionValues, motionFields, MotionLacks, readMotion}
-use Rattle.picture.specs.Sources.{SourcesValues, sourcesFields, readSources}
-use Rattle.picture.specs.Inter.{InterValues, interFields, InterLacks, readInter}
 
 pub key-reads : (profile : ℕ) → Reads Any (KeyLacks profile) (keyFields profile) (readKey profile)
 unfolding keyFields KeyLacks readKey
@@ -32,25 +28,6 @@ intra-only-reads profile =
     take (λ (v : IntraOnlyValues). v .refresh-frame-flags) λ r.
     last (λ (v : IntraOnlyValues). v .sizes) sizes-reads (λ a. (search)) (λ a. refl) (λ b k. rw (← (k .1), ← (k .0 .1), ← (k .0 .0 .1)))
 
-pub motion-reads : Reads Any MotionLacks motionFields readMotion
-unfolding motionFields MotionLacks readMotion
-motion-reads =
-    take (λ (v : MotionValues). v .allow-high-precision-mv) λ h.
-    last (λ (v : MotionValues). v .filter) filter-reads (λ a. (search)) (λ a. refl) (λ b k. rw (← (k .1)))
-
-pub sources-reads : Reads Any Any sourcesFields readSources
-unfolding sourcesFields readSources
-sources-reads =
-    take (λ (v : SourcesValues). v .refresh-frame-flags) λ r.
-    last (λ (v : SourcesValues). v .refs) refs-reads (λ a. (search)) (λ a. refl) (λ b k. rw (← (k .1)))
-
-pub inter-reads : Reads Any InterLacks interFields readInter
-unfolding interFields InterLacks readInter
-inter-reads =
-    next (λ (v : InterValues). v .sources) sources-reads λ x.
-    then (λ (v : InterValues). v .sizes) size-with-refs-reads λ z.
-    last (λ (v : InterValues). v .motion) motion-reads (λ a. (search)) (λ a. refl) (λ b k. rw (← (k .1), ← (k .0 .1)))
-
 pub key-size : (profile : ℕ) (v : KeyValues) → size (keyFields profile v) ≤ 97
 unfolding keyFields
 key-size profile v = simp size-append (omega (arith, sync-size (v .frame-sync-code), color-size profile (v .color), sizes-size (v .sizes)))
@@ -58,15 +35,3 @@ key-size profile v = simp size-append (omega (arith, sync-size (v .frame-sync-co
 pub intra-only-size : (profile : ℕ) (v : IntraOnlyValues) → size (intraOnlyFields profile v) ≤ 105
 unfolding intraOnlyFields
 intra-only-size profile v = simp size-append (omega (arith, sync-size (v .frame-sync-code), intra-color-size profile (v .color), sizes-size (v .sizes)))
-
-pub motion-size : (v : MotionValues) → size (motionFields v) ≤ 4
-unfolding motionFields
-motion-size v = omega (arith, filter-size (v .filter))
-
-pub sources-size : (v : SourcesValues) → size (sourcesFields v) ≤ 20
-unfolding sourcesFields
-sources-size v = omega (arith, refs-size (v .refs))
-
-pub inter-size : (v : InterValues) → size (interFields v) ≤ 92
-unfolding interFields
-inter-size v = simp size-append (omega (arith, sources-size (v .sources), size-with-refs-size (v .sizes), motion-size (v .motion)))

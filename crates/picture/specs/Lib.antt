@@ -1,6 +1,3 @@
-pub mod Sources
 pub mod Picture
 pub mod Key
 pub mod IntraOnly
-pub mod Motion
-pub mod Inter

@@ -6,8 +6,8 @@ use Rattle.bits.specs.Reader.{Got, got, refused}
 use Rattle.enums.specs.declared.InterpolationFilter.the-variants.{EightTap}
 use Rattle.color.specs.declared.Color.{Color}
 use Rattle.sizes.specs.declared.Sizes.{Sizes}
-use Rattle.sizes.specs.declared.Ref.{Ref}
-use Rattle.sizes.specs.declared.Refs.{Refs}
+use Rattle.refs.specs.declared.Ref.{Ref}
+use Rattle.refs.specs.declared.Refs.{Refs}
 use Rattle.picture.specs.declared.Picture.{Picture}
 use Rattle.picture.specs.declared.PictureRead.{PictureRead}
 use Rattle.picture.specs.declared.PictureRead.the-variants.{Value, Refused}

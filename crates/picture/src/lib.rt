@@ -1,11 +1,8 @@
-// What a frame says of its picture: colour, sizes, references and motion, for each of the three kinds of frame.
+// What a frame says of its picture: colour, sizes, references and motion; and the pictures of key frames and intra-only frames.
 ghost use mathlib.Core.Path.{_≡_};
 ghost use Rattle.bits.specs.Reader.{over};
 ghost use Rattle.picture.specs.Key.{readKey, keyOf};
 ghost use Rattle.picture.specs.IntraOnly.{readIntraOnly, intraOnlyOf};
-ghost use Rattle.picture.specs.Sources.{readSources, sourcesOf, viewSources};
-ghost use Rattle.picture.specs.Motion.{readMotion, motionOf, viewMotion};
-ghost use Rattle.picture.specs.Inter.{readInter, interOf};
 ghost use Rattle.picture.specs.Picture.{intraPicture, viewPicture};
 use bits::Bits;
 use bits::Cursor;
@@ -13,35 +10,13 @@ use bits::Refusal;
 use color::Color;
 use color::ColorRead;
 use enums::InterpolationFilter;
-use settings::FilterRead;
-use sizes::Ref;
-use sizes::Refs;
-use sizes::RefsRead;
+use motion::Motion;
+use refs::Ref;
+use refs::Refs;
+use refs::Sources;
 use sizes::Sizes;
 use sizes::SizesRead;
 use start::SyncRead;
-use types::FrameSize;
-
-pub struct Motion {
-    pub allow_high_precision_mv: bool,
-    pub interpolation_filter: InterpolationFilter,
-}
-
-pub enum MotionRead {
-    Value(Motion, Cursor),
-    Short,
-}
-
-// The slots that a frame writes, one to a bit, and those that it reads.
-pub struct Sources {
-    pub refresh_frame_flags: u8,
-    pub refs: Refs,
-}
-
-pub enum SourcesRead {
-    Value(Sources, Cursor),
-    Short,
-}
 
 pub struct Picture {
     pub color: Color,
@@ -119,65 +94,4 @@ pub fn parse_intra_only(s: &[u8], c: Cursor, profile: u32) -> PictureRead
             PictureRead::Value(Picture::intra(color, slots, sizes), c4)
         }
     }
-}
-
-pub fn parse_motion(s: &[u8], c: Cursor) -> MotionRead
-    ensures { λ r. ⌜ viewMotion r ≡ over motionOf (readMotion (now (s .entry)) (c .at)) ⌝ }
-{
-    let Bits::Value(precise, c1) = bits::read_bits(s, c, 1) else {
-        return MotionRead::Short;
-    };
-    let FilterRead::Value(filter, c2) = settings::read_interpolation_filter(s, c1) else {
-        return MotionRead::Short;
-    };
-    MotionRead::Value(
-        Motion {
-            allow_high_precision_mv: precise == 1,
-            interpolation_filter: filter,
-        },
-        c2,
-    )
-}
-
-pub fn parse_sources(s: &[u8], c: Cursor) -> SourcesRead
-    ensures { λ r. ⌜ viewSources r ≡ over sourcesOf (readSources (now (s .entry)) (c .at)) ⌝ }
-{
-    let Bits::Value(refresh, c1) = bits::read_bits(s, c, 8) else {
-        return SourcesRead::Short;
-    };
-    let RefsRead::Value(refs, c2) = sizes::parse_refs(s, c1) else {
-        return SourcesRead::Short;
-    };
-    SourcesRead::Value(
-        Sources {
-            refresh_frame_flags: refresh as u8,
-            refs,
-        },
-        c2,
-    )
-}
-
-// An inter frame has the colour that is remembered, and may take its size from a remembered one.
-pub fn parse_inter(s: &[u8], c: Cursor, color: Color, slots: [FrameSize; 8]) -> PictureRead
-    ensures { λ r. ⌜ viewPicture r ≡ over (interOf color slots) (readInter (now (s .entry)) (c .at)) ⌝ }
-{
-    let SourcesRead::Value(sources, c1) = parse_sources(s, c) else {
-        return PictureRead::Refused(Refusal::PastEnd);
-    };
-    let SizesRead::Value(sizes, c2) = sizes::parse_frame_size_with_refs(s, c1, sources.refs, slots)
-    else {
-        return PictureRead::Refused(Refusal::PastEnd);
-    };
-    let MotionRead::Value(motion, c3) = parse_motion(s, c2) else {
-        return PictureRead::Refused(Refusal::PastEnd);
-    };
-    PictureRead::Value(
-        Picture {
-            color,
-            sources,
-            sizes,
-            motion,
-        },
-        c3,
-    )
 }

@@ -6,13 +6,12 @@ use mathlib.Core.Path.{_≡_}
 use mathlib.Core.List.{List, _∷_, _++_}
 use Rattle.bits.specs.Refusal.{the}
 use Rattle.bits.specs.Syntax.{Field, fld, flag, optional, Given}
-use Rattle.bits.specs.Reader.{Got, Reader, give, _>>=_, field, groupIf, over, viewNext}
-use Rattle.bits.specs.declared.Next.{Next}
-use Rattle.bits.specs.declared.Next.the-variants.{At, Refused}
+use Rattle.bits.specs.Reader.{Reader, give, _>>=_, field, groupIf, over}
 use Rattle.types.specs.declared.segmentation.SegmentationParams.{SegmentationParams}
-use Rattle.segmentation.specs.Map.{MapValues, noMap, mapFields, MapLacks, readMap, mapOf}
-use Rattle.segmentation.specs.Data.{DataValues, noData, dataFields, DataLacks, readData, dataOf}
-use Rattle.segmentation.specs.declared.SegmentationRead.{SegmentationRead}
+use Rattle.segment_map.specs.Map.{MapValues, noMap, mapFields, MapLacks, readMap, mapOf}
+use Rattle.segment_data.specs.Data.{DataValues, noData, dataFields, DataLacks, readData, dataOf}
+use Rattle.segment_map.specs.Answer.{viewSegmentation, Kept}
+use Rattle.segment_map.specs.declared.SegmentationRead.{SegmentationRead}
 
 pub record SegmentationValues : Type 0 where
   pub enabled : ℕ
@@ -58,15 +57,6 @@ switched old on =
 unfoldable pub segmentationOf : SegmentationParams → SegmentationValues → SegmentationParams
 segmentationOf old v = dataOf (mapOf (switched old (flag (v .enabled))) (v .map-part)) (v .data-part)
 
--- the code's answer
-abbrev pub viewSegmentation : SegmentationRead → Got SegmentationParams
-viewSegmentation r = viewNext (r .seg) (r .next)
-
--- a refusal hands the old settings back
-abbrev pub Kept : SegmentationParams → SegmentationParams → Next → Type 0
-Kept old seg (At c) = Unit
-Kept old seg (Refused e) = seg ≡ old
-
--- what `parse_segmentation_params` answers, from the remembered settings
+-- the code's answer: what `parse_segmentation_params` answers, from the remembered settings
 abbrev pub SegmentationIs : List ℕ → ℕ → SegmentationParams → SegmentationRead → Type 0
 SegmentationIs s p old r = (viewSegmentation r ≡ over (segmentationOf old) (readSegmentation s p)) × Kept old (r .seg) (r .next)

@@ -1,21 +1,17 @@
 -- The laws of the groups, and how many bits each takes at most.
 -- Assumes nothing.
-use Prim.Native.Nat.{ℕ, _≤_}
+use Prim.Native.Nat.{_≤_}
 use mathlib.Core.Path.{refl}
 use mathlib.Core.Bool.{Bool, true, false}
 use native.Mathlib.Omega.{arith}
-use lib.Dec.{eqb}
 use Rattle.bits.specs.Refusal.{Name, the}
 use Rattle.bits.specs.Syntax.{flag, optional, size}
 use Rattle.bits.specs.Law.{Any, Reads}
 use Rattle.bits.proofs.Fields.{size-append}
-use Rattle.bits.proofs.Laws.{take, then, next, next-if, last, done, ends}
-use Rattle.coded.proofs.Run.{run-reads, run-size}
+use Rattle.bits.proofs.Laws.{take, next, next-if, last, done, ends}
 use Rattle.sizes.specs.Size.{SizeValues, noSizeValues, sizeFields, readSize}
 use Rattle.sizes.specs.Render.{RenderValues, renderFields, RenderLacks, readRender}
 use Rattle.sizes.specs.Sizes.{SizesValues, sizesFields, SizesLacks, readSizes}
-use Rattle.sizes.specs.Refs.{RefValues, refFields, readRef, RefsValues, refsFields, readRefs}
-use Rattle.sizes.specs.SizeWithRefs.{SizeWithRefsValues, sizeWithRefsFields, SizeWithRefsLacks, readSizeWithRefs}
 
 pub size-reads : (x y : Name) → Reads Any Any (sizeFields x y) (readSize x y)
 unfolding sizeFields readSize
@@ -37,34 +33,13 @@ sizes-reads =
     next (λ (v : SizesValues). v .size) (size-reads _ _) λ z.
     last (λ (v : SizesValues). v .render) render-reads (λ a. (tt, refl)) (λ a. refl) (λ b k. rw (← (k .1)))
 
-pub ref-reads : (i : ℕ) → Reads Any Any (refFields i) (readRef i)
-unfolding refFields readRef
-ref-reads i =
-    take (λ (v : RefValues). v .ref-frame-idx) λ n.
-    take (λ (v : RefValues). v .ref-frame-sign-bias) λ b.
-    done _ (search) tt (λ b k y. rw (← (k .1), ← (k .0 .1)))
-
-pub refs-reads : Reads Any Any refsFields readRefs
-unfolding refsFields readRefs
-refs-reads =
-    next (λ (v : RefsValues). v .last) (ref-reads 0) λ l.
-    next (λ (v : RefsValues). v .golden) (ref-reads 1) λ g.
-    last (λ (v : RefsValues). v .altref) (ref-reads 2) (λ a. ((tt, refl), refl)) (λ a. refl) (λ b k. rw (← (k .1), ← (k .0 .1)))
-
-pub size-with-refs-reads : Reads Any SizeWithRefsLacks sizeWithRefsFields readSizeWithRefs
-unfolding sizeWithRefsFields SizeWithRefsLacks readSizeWithRefs
-size-with-refs-reads =
-    then (λ (v : SizeWithRefsValues). v .found-ref) (run-reads "found_ref" 0 (omega arith) 0 3) λ n.
-    next-if (eqb n 3) (λ (v : SizeWithRefsValues). eqb (v .found-ref) 3) (λ v k. rw (k .1)) noSizeValues (λ (v : SizeWithRefsValues). v .size) (size-reads _ _) λ z.
-    last (λ (v : SizeWithRefsValues). v .render) render-reads (λ a. ((tt, refl), refl)) (λ a. refl) (λ b k. rw (← (k .1), ← (k .0 .1)))
-
 -- how many bits they have at most
 pub size-size : (x y : Name) (v : SizeValues) → size (sizeFields x y v) ≤ 32
 unfolding sizeFields
 size-size x y v = omega arith
 
 -- also where it is there only sometimes
-size-if-size : (b : Bool) (x y : Name) (v : SizeValues) → size (optional b (sizeFields x y v)) ≤ 32
+pub size-if-size : (b : Bool) (x y : Name) (v : SizeValues) → size (optional b (sizeFields x y v)) ≤ 32
 size-if-size true x y v = size-size x y v
 size-if-size false x y v = omega arith
 
@@ -75,19 +50,3 @@ render-size v = omega (arith, size-if-size (flag (v .render-and-frame-size-diffe
 pub sizes-size : (v : SizesValues) → size (sizesFields v) ≤ 65
 unfolding sizesFields
 sizes-size v = simp size-append (omega (arith, size-size (the "frame_width_minus_1") (the "frame_height_minus_1") (v .size), render-size (v .render)))
-
-pub ref-size : (i : ℕ) (v : RefValues) → size (refFields i v) ≤ 4
-unfolding refFields
-ref-size i v = omega arith
-
-pub refs-size : (v : RefsValues) → size (refsFields v) ≤ 12
-unfolding refsFields
-refs-size v = simp size-append (omega (arith, ref-size 0 (v .last), ref-size 1 (v .golden), ref-size 2 (v .altref)))
-
-pub size-with-refs-size : (v : SizeWithRefsValues) → size (sizeWithRefsFields v) ≤ 68
-unfolding sizeWithRefsFields
-size-with-refs-size v =
-    let run = run-size "found_ref" 0 0 3 (v .found-ref) in
-    let own = size-if-size (eqb (v .found-ref) 3) (the "frame_width_minus_1") (the "frame_height_minus_1") (v .size) in
-    let render = render-size (v .render) in
-    simp size-append (omega arith)

@@ -1,5 +1,4 @@
 pub mod Laws
 pub mod Steps
 pub mod Records
-pub mod WithRefs
 pub mod Exact

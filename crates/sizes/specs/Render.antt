@@ -4,14 +4,11 @@ use Prim.Native.Nat.{ℕ}
 use mathlib.Core.List.{List, _∷_}
 use Rattle.bits.specs.Refusal.{the}
 use Rattle.bits.specs.Syntax.{Field, fld, flag, optional, Given}
-use Rattle.bits.specs.Reader.{Got, got, refused, Reader, give, _>>=_, field, groupIf}
+use Rattle.bits.specs.Reader.{Reader, give, _>>=_, field, groupIf}
 use Rattle.bits.specs.Law.{Any}
-use Rattle.bits.specs.declared.Refusal.the-variants.{PastEnd}
 use Rattle.types.specs.declared.size.FrameSize.{FrameSize}
 use Rattle.sizes.specs.Size.{SizeValues, noSizeValues, sizeFields, readSize, sizeOr}
 use Rattle.sizes.specs.declared.Render.{Render}
-use Rattle.sizes.specs.declared.RenderRead.{RenderRead}
-use Rattle.sizes.specs.declared.RenderRead.the-variants.{Value, Short}
 
 pub record RenderValues : Type 0 where
   pub render-and-frame-size-different : ℕ
@@ -43,8 +40,3 @@ renderOf frame v =
       different = flag (v .render-and-frame-size-different);
       size = sizeOr (flag (v .render-and-frame-size-different)) frame (v .size);
     }
-
--- the code's answer
-abbrev pub viewRender : RenderRead → Got Render
-viewRender (Value a c) = got a (c .at)
-viewRender Short = refused PastEnd

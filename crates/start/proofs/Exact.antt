@@ -11,21 +11,9 @@ use Rattle.start.specs.declared.OpeningRead.{OpeningRead}
 use Rattle.start.specs.declared.OpeningRead.the-variants.{Value as Opens, Refused as NotOpen}
 use Rattle.start.specs.declared.SyncRead.{SyncRead}
 use Rattle.start.specs.declared.SyncRead.the-variants.{Value as Synced, Refused as Unsynced}
-use Rattle.start.specs.declared.Traits.{Traits}
-use Rattle.start.specs.declared.TraitsRead.{TraitsRead}
-use Rattle.start.specs.declared.TraitsRead.the-variants.{Value as Has, Short as HasNot}
-use Rattle.start.specs.declared.Kind.{Kind}
-use Rattle.start.specs.declared.KindRead.{KindRead}
-use Rattle.start.specs.declared.KindRead.the-variants.{Value as Is, Short as IsNot}
-use Rattle.start.specs.declared.Context.{Context}
-use Rattle.start.specs.declared.ContextRead.{ContextRead}
-use Rattle.start.specs.declared.ContextRead.the-variants.{Value as With, Short as Without}
 use Rattle.start.specs.Profile.{viewProfile}
 use Rattle.start.specs.Opening.{viewOpening}
-use Rattle.start.specs.Traits.{viewTraits}
-use Rattle.start.specs.Kind.{viewKind}
 use Rattle.start.specs.Sync.{viewSync}
-use Rattle.start.specs.Context.{viewContext}
 
 asProfile : Got ℕ → ProfileRead
 asProfile (got a p) = Profile a (record { at = p })
@@ -62,39 +50,3 @@ sync-back (Unsynced e) = refl
 
 pub one-sync : (r q : SyncRead) (x : Got (Unit {0})) → viewSync r ≡ x → viewSync q ≡ x → r ≡ q
 one-sync = one-of viewSync asSync sync-back
-
-asTraits : Got Traits → TraitsRead
-asTraits (got a p) = Has a (record { at = p })
-asTraits (refused e) = HasNot
-
-traits-back : (r : TraitsRead) → asTraits (viewTraits r) ≡ r
-unfolding asTraits
-traits-back (Has a c) = refl
-traits-back HasNot = refl
-
-pub one-traits : (r q : TraitsRead) (x : Got Traits) → viewTraits r ≡ x → viewTraits q ≡ x → r ≡ q
-one-traits = one-of viewTraits asTraits traits-back
-
-asKind : Got Kind → KindRead
-asKind (got a p) = Is a (record { at = p })
-asKind (refused e) = IsNot
-
-kind-back : (r : KindRead) → asKind (viewKind r) ≡ r
-unfolding asKind
-kind-back (Is a c) = refl
-kind-back IsNot = refl
-
-pub one-kind : (r q : KindRead) (x : Got Kind) → viewKind r ≡ x → viewKind q ≡ x → r ≡ q
-one-kind = one-of viewKind asKind kind-back
-
-asContext : Got Context → ContextRead
-asContext (got a p) = With a (record { at = p })
-asContext (refused e) = Without
-
-context-back : (r : ContextRead) → asContext (viewContext r) ≡ r
-unfolding asContext
-context-back (With a c) = refl
-context-back Without = refl
-
-pub one-context : (r q : ContextRead) (x : Got Context) → viewContext r ≡ x → viewContext q ≡ x → r ≡ q
-one-context = one-of viewContext asContext context-back

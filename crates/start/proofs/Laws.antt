@@ -1,21 +1,16 @@
 -- The laws of these groups, and how many bits each can have.
 -- Assumes nothing.
 use Prim.Native.Nat.{ℕ, _+_, _*_, _≤_}
-use mathlib.Core.Path.{refl}
-use mathlib.Core.Bool.{Bool, true, false, not}
 use native.Mathlib.Omega.{arith}
 use lib.Dec.{eqb}
 use Rattle.bits.specs.Refusal.{the}
 use Rattle.bits.specs.Syntax.{flag, size}
 use Rattle.bits.specs.Law.{Any, Reads}
-use Rattle.bits.proofs.Laws.{take, take-if, demand, then, done, ends, rest}
+use Rattle.bits.proofs.Laws.{take, take-if, demand, then, done, ends}
 use Rattle.bits.proofs.Fields.{size-join, size-if}
 use Rattle.start.specs.Profile.{ProfileValues, profileFields, ProfileLacks, readProfile, profileNumber}
 use Rattle.start.specs.Opening.{OpeningValues, openingFields, OpeningLacks, readOpening}
-use Rattle.start.specs.Traits.{TraitsValues, traitsFields, readTraits}
-use Rattle.start.specs.Kind.{KindValues, kindFields, KindLacks, readKind}
 use Rattle.start.specs.Sync.{syncFields, readSync}
-use Rattle.start.specs.Context.{ContextValues, contextFields, ContextLacks, readContext}
 
 pub profile-reads : Reads Any ProfileLacks profileFields readProfile
 unfolding profileFields ProfileLacks readProfile
@@ -34,32 +29,9 @@ opening-reads =
     ends (take-if (flag x) (λ (v : OpeningValues). flag (v .show-existing-frame)) (λ v k. rw (k .1)) _ _ (λ (v : OpeningValues). v .frame-to-show-map-idx) λ i.
     done _ (search) tt (λ b k y. rw (← (k .1), ← (k .0 .1), ← (k .0 .0 .1))))
 
-pub traits-reads : Reads Any Any traitsFields readTraits
-unfolding traitsFields readTraits
-traits-reads =
-    take (λ (v : TraitsValues). v .frame-type) λ t.
-    take (λ (v : TraitsValues). v .show-frame) λ w.
-    take (λ (v : TraitsValues). v .error-resilient-mode) λ e.
-    done _ (search) tt (λ b k y. rw (← (k .1), ← (k .0 .1), ← (k .0 .0 .1)))
-
-pub kind-reads : (shown resilient : Bool) → Reads Any (KindLacks shown resilient) (kindFields shown resilient) (readKind shown resilient)
-unfolding kindFields KindLacks readKind
-kind-reads shown resilient =
-    take-if (not shown) (λ v. not shown) (λ v k. refl) _ _ (λ (v : KindValues). v .intra-only) λ i.
-    ends (take-if (not resilient) (λ v. not resilient) (λ v k. refl) _ _ (λ (v : KindValues). v .reset-frame-context) λ r.
-    done _ (search) tt (λ b k y. rw (← (k .1), ← (k .0 .1))))
-
 pub sync-reads : Reads Any Any syncFields readSync
 unfolding syncFields readSync
 sync-reads = demand (λ n. n) (omega arith) λ n. done _ (search) tt (λ b k y. k .1)
-
-pub context-reads : (resilient : Bool) → Reads Any (ContextLacks resilient) (contextFields resilient) (readContext resilient)
-unfolding contextFields ContextLacks readContext
-context-reads resilient =
-    take-if (not resilient) (λ v. not resilient) (λ v k. refl) _ _ (λ (v : ContextValues). v .refresh-frame-context) λ r.
-    rest (take-if (not resilient) (λ v. not resilient) (λ v k. refl) _ _ (λ (v : ContextValues). v .frame-parallel-decoding-mode) λ m.
-    take (λ (v : ContextValues). v .frame-context-idx) λ i.
-    done _ (search) tt (λ b k y. rw (← (k .1), ← (k .0 .1), ← (k .0 .0 .1))))
 
 -- how many bits they have at most
 pub profile-size : (v : ProfileValues) → size (profileFields v) ≤ 5
@@ -72,22 +44,6 @@ opening-size v =
     size-join (profileFields (v .profile)) _ 5 4 (profile-size (v .profile))
     (omega (arith, size-if (flag (v .show-existing-frame)) (the "frame_to_show_map_idx") 3 (v .frame-to-show-map-idx)))
 
-pub traits-size : (v : TraitsValues) → size (traitsFields v) ≤ 3
-unfolding traitsFields
-traits-size v = omega arith
-
-pub kind-size : (shown resilient : Bool) (v : KindValues) → size (kindFields shown resilient v) ≤ 3
-unfolding kindFields
-kind-size true true v = omega arith
-kind-size true false v = omega arith
-kind-size false true v = omega arith
-kind-size false false v = omega arith
-
 pub sync-size : (n : ℕ) → size (syncFields n) ≤ 24
 unfolding syncFields
 sync-size n = omega arith
-
-pub context-size : (resilient : Bool) (v : ContextValues) → size (contextFields resilient v) ≤ 4
-unfolding contextFields
-context-size true v = omega arith
-context-size false v = omega arith

@@ -2,7 +2,7 @@
 -- Assumes nothing.
 use Prim.Native.Nat.{ℕ, _+_, _*_, _<_}
 use mathlib.Core.Path.{_≡_}
-use mathlib.Core.Bool.{Bool, false}
+use mathlib.Core.Bool.{Bool}
 use mathlib.Core.List.{List}
 use native.Mathlib.Omega.{arith}
 use lib.Dec.{eqb}
@@ -16,7 +16,6 @@ use Rattle.bits.specs.Reader.{got}
 use Rattle.bits.proofs.Steps.{value-lt, value-if-lt}
 use Rattle.start.specs.Profile.{ProfileValues, profileNumber}
 use Rattle.start.specs.Opening.{openingOf}
-use Rattle.start.specs.Context.{parallelOf, contextOf}
 
 module _ (s : List ℕ) (p : ℕ) (r : Bits) (h : ℕ) (c : Cursor) (e : r ≡ readBits s p 1) (t : r ≡ Value h c) where
   bit : h < 2
@@ -29,25 +28,10 @@ module _ (s : List ℕ) (p : ℕ) (r : Bits) (h : ℕ) (c : Cursor) (e : r ≡ r
   profile-fits q o l d f u = record { fits = omega (arith, bit, value-lt s q 1 o l d f u tt) }
 
 -- a number of at most three bits fits a byte
-pub idx-fits : (s : List ℕ) (p : ℕ) (r : Bits) (n : ℕ) (c : Cursor) → r ≡ readBits s p 2 → r ≡ Value n c → Fits w8 n
-idx-fits s p r n c e t = record { fits = omega (arith, value-lt s p 2 r n c e t tt) }
-
 pub slot-fits : (b : Bool) (s : List ℕ) (p : ℕ) (r : Bits) (n : ℕ) (c : Cursor) → r ≡ readBitsIf b s p 3 → r ≡ Value n c → Fits w8 n
 slot-fits b s p r n c e t = record { fits = omega (arith, value-if-lt b s p 3 r e tt n c t) }
-
-pub reset-fits : (b : Bool) (s : List ℕ) (p : ℕ) (r : Bits) (n : ℕ) (c : Cursor) → r ≡ readBitsIf b s p 2 → r ≡ Value n c → Fits w8 n
-reset-fits b s p r n c e t = record { fits = omega (arith, value-if-lt b s p 2 r e tt n c t) }
 
 pub opening-read : (n x i q : ℕ) (a : ProfileValues) → n ≡ profileNumber a
     → got (record { profile = n; «show_existing_frame» = eqb x 1; «frame_to_show_map_idx» = i }) q ≡ got (openingOf (record { profile = a; show-existing-frame = x; frame-to-show-map-idx = i })) q
 unfolding openingOf
 opening-read n x i q a e = rw e
-
-pub parallel-read : (b : Bool) (n : ℕ) → b ≡ false → eqb n 1 ≡ parallelOf b n
-parallel-read b n e = rw e
-
-pub context-read : (b t : Bool) (r m i q : ℕ) → t ≡ parallelOf b m
-    → got (record { «refresh_frame_context» = eqb r 1; «frame_parallel_decoding_mode» = t; «frame_context_idx» = i }) q
-    ≡ got (contextOf b (record { refresh-frame-context = r; frame-parallel-decoding-mode = m; frame-context-idx = i })) q
-unfolding contextOf
-context-read b t r m i q e = rw e

@@ -7,7 +7,8 @@ use Rattle.bits.specs.Syntax.{size}
 use Rattle.bits.specs.Law.{Any, Reads}
 use Rattle.bits.proofs.Laws.{take, then, last, done, rest}
 use Rattle.bits.proofs.Fields.{size-append}
-use Rattle.settings.proofs.Laws.{loop-filter-reads, loop-filter-size, quantizer-reads, quantizer-size}
+use Rattle.filter.proofs.Laws.{loop-filter-reads, loop-filter-size}
+use Rattle.quantizer.proofs.Laws.{quantizer-reads, quantizer-size}
 use Rattle.segmentation.proofs.Laws.{segmentation-reads, segmentation-size}
 use Rattle.tiles.proofs.Laws.{tiles-reads, tiles-size}
 use Rattle.tail.specs.Settings.{SettingsValues, settingsFields, SettingsLacks, readSettings}

@@ -18,8 +18,8 @@ use Rattle.bits.proofs.Steps.{value-lt}
 use Rattle.types.specs.declared.loop_filter.LoopFilterParams.{LoopFilterParams}
 use Rattle.types.specs.declared.quantization.QuantizationParams.{QuantizationParams}
 use Rattle.types.specs.declared.segmentation.SegmentationParams.{SegmentationParams}
-use Rattle.settings.specs.LoopFilter.{LoopFilterValues, loopFilterOf}
-use Rattle.settings.specs.Quantizer.{QuantizerValues, quantizerOf}
+use Rattle.filter.specs.LoopFilter.{LoopFilterValues, loopFilterOf}
+use Rattle.quantizer.specs.Quantizer.{QuantizerValues, quantizerOf}
 use Rattle.segmentation.specs.Segmentation.{SegmentationValues, segmentationOf}
 use Rattle.tiles.specs.declared.Tiles.{Tiles}
 use Rattle.tiles.specs.Tiles.{TilesValues, tilesOf}

@@ -13,10 +13,10 @@ use Rattle.types.specs.QuantizationParams.{defaultQuantization}
 use Rattle.types.specs.SegmentationParams.{resetSegmentation}
 use Rattle.types.specs.declared.loop_filter.LoopFilterParams.{LoopFilterParams}
 use Rattle.types.specs.declared.segmentation.SegmentationParams.{SegmentationParams}
-use Rattle.settings.specs.LoopFilter.{LoopFilterValues, noLoopFilter, loopFilterFields, LoopFilterLacks, readLoopFilter, loopFilterOf}
-use Rattle.settings.specs.Quantizer.{QuantizerValues, noQuantizer, quantizerFields, QuantizerLacks, readQuantizer, quantizerOf}
-use Rattle.segmentation.specs.Map.{noMap}
-use Rattle.segmentation.specs.Data.{noData}
+use Rattle.filter.specs.LoopFilter.{LoopFilterValues, noLoopFilter, loopFilterFields, LoopFilterLacks, readLoopFilter, loopFilterOf}
+use Rattle.quantizer.specs.Quantizer.{QuantizerValues, noQuantizer, quantizerFields, QuantizerLacks, readQuantizer, quantizerOf}
+use Rattle.segment_map.specs.Map.{noMap}
+use Rattle.segment_data.specs.Data.{noData}
 use Rattle.segmentation.specs.Segmentation.{SegmentationValues, segmentationFields, SegmentationLacks, readSegmentation, segmentationOf}
 use Rattle.tail.specs.declared.Settings.{Settings}
 use Rattle.tail.specs.declared.SettingsRead.{SettingsRead}

@@ -7,7 +7,7 @@ use bits::Bits;
 use bits::Cursor;
 use bits::Next;
 use bits::Refusal;
-use settings::QuantizerRead;
+use quantizer::QuantizerRead;
 use tiles::Tiles;
 use tiles::TilesRead;
 use types::LoopFilterParams;
@@ -51,7 +51,7 @@ fn kept_settings(lf: LoopFilterParams, seg: SegmentationParams) -> Settings
 fn read_settings(s: &[u8], c: Cursor, lf: LoopFilterParams, seg: SegmentationParams) -> SettingsRead
     ensures { λ r. ⌜ SettingsAre (now (s .entry)) (c .at) lf seg r ⌝ }
 {
-    let filter = settings::parse_loop_filter_params(s, c, lf);
+    let filter = filter::parse_loop_filter_params(s, c, lf);
     let n1 = filter.next;
     let Next::At(c1) = n1 else {
         return SettingsRead {
@@ -59,7 +59,7 @@ fn read_settings(s: &[u8], c: Cursor, lf: LoopFilterParams, seg: SegmentationPar
             next: n1,
         };
     };
-    let QuantizerRead::Value(quant, c2) = settings::parse_quantization_params(s, c1) else {
+    let QuantizerRead::Value(quant, c2) = quantizer::parse_quantization_params(s, c1) else {
         return SettingsRead {
             settings: kept_settings(lf, seg),
             next: Next::Refused(Refusal::PastEnd),

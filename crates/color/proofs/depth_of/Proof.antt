@@ -1,4 +1,4 @@
-use Rattle.color.proofs.Records.{picking}
+use Rattle.sampling.proofs.Records.{picking}
 use Rattle.color.proofs.depth_of.Statement.{statement}
 use Rattle.color.proofs.depth_of.Tie as tie
 

@@ -1,7 +1,7 @@
 use Rattle.bits.proofs.Steps.{reading}
 use Rattle.color.specs.Color.{readColor}
 use Rattle.color.proofs.Records.{color-read}
-use Rattle.color.proofs.Steps.{sampling-step, sampling-stop}
+use Rattle.sampling.proofs.Steps.{sampling-step, sampling-stop}
 use borrow.Author.Needs.{needs}
 use Rattle.color.proofs.parse_color_config.Statement.{statement}
 use Rattle.color.proofs.parse_color_config.Tie as tie

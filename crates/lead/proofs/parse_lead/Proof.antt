@@ -1,4 +1,4 @@
-use Rattle.start.proofs.Steps.{traits-step, traits-stop, context-step, context-stop}
+use Rattle.traits.proofs.Steps.{traits-step, traits-stop, context-step, context-stop}
 use Rattle.lead.specs.Lead.{readLead}
 use Rattle.lead.proofs.Steps.{resilient-as, shot-step, shot-stop, lead-read}
 use borrow.Author.Needs.{needs}

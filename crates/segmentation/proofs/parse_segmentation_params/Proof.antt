@@ -1,8 +1,9 @@
 use mathlib.Core.Path.{refl}
 use Rattle.bits.proofs.Steps.{reading}
 use Rattle.segmentation.specs.Segmentation.{readSegmentation}
-use Rattle.segmentation.proofs.Records.{off-read, parts-read, old-kept, none-kept}
-use Rattle.segmentation.proofs.Steps.{there-step, there-stop, absent}
+use Rattle.segment_map.proofs.Records.{old-kept, none-kept}
+use Rattle.segment_map.proofs.Steps.{there-step, there-stop, absent}
+use Rattle.segmentation.proofs.Records.{off-read, parts-read}
 use borrow.Author.Needs.{needs}
 use Rattle.segmentation.proofs.parse_segmentation_params.Statement.{statement}
 use Rattle.segmentation.proofs.parse_segmentation_params.Tie as tie

@@ -19,8 +19,8 @@ returns : tie.Need-returns
 unfolding readSizes
 returns c = search size-stop
 
-with-render-requires : tie.Need-with-render-requires
-with-render-requires c κs = search needs
+parse-render-size-requires : tie.Need-parse-render-size-requires
+parse-render-size-requires c κs = search needs
 
 returns-2 : tie.Need-returns-2
 unfolding readSizes
@@ -34,5 +34,5 @@ parse-sizes-spec =
     enum-known-frame
     enum-told
     returns
-    with-render-requires
+    parse-render-size-requires
     returns-2)

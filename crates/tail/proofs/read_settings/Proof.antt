@@ -1,4 +1,5 @@
-use Rattle.settings.proofs.Steps.{loop-filter-step, loop-filter-stop, quantizer-step, quantizer-stop}
+use Rattle.filter.proofs.Steps.{loop-filter-step, loop-filter-stop}
+use Rattle.quantizer.proofs.Steps.{quantizer-step, quantizer-stop}
 use Rattle.segmentation.proofs.Steps.{segmentation-step, segmentation-stop}
 use Rattle.tail.specs.Settings.{readSettings}
 use Rattle.tail.proofs.Records.{settings-read, kept, seen}

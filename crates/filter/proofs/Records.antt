@@ -1,0 +1,35 @@
+-- The records that the code makes are those of the values.
+-- Assumes nothing.
+use Prim.Native.Nat.{ℕ}
+use mathlib.Core.Path.{_≡_}
+use mathlib.Core.List.{List}
+use native.Mathlib.Omega.{arith}
+use lib.Dec.{T, eqb, leb, leb→le, le→leb}
+use lib.Pow.{pow-mono}
+use mir.Val.{Fits}
+use mir.Syntax.{w8}
+use borrow.Author.Tests.{eq-eqb, ne-eqb}
+use Rattle.bits.specs.declared.Bits.{Bits}
+use Rattle.bits.specs.declared.Bits.the-variants.{Value}
+use Rattle.bits.specs.declared.Cursor.{Cursor}
+use Rattle.bits.specs.Read.{readBits}
+use Rattle.bits.specs.Reader.{got}
+use Rattle.bits.proofs.Steps.{value-lt}
+use Rattle.types.specs.declared.loop_filter.LoopFilterParams.{LoopFilterParams}
+use Rattle.loop_deltas.specs.LoopDeltas.{LoopDeltasValues, noLoopDeltas, withFlags, loopDeltasOf}
+use Rattle.filter.specs.LoopFilter.{loopFilterOf}
+
+-- a value of at most 8 bits
+pub byte-fits : (s : List ℕ) (p n : ℕ) (r : Bits) (m : ℕ) (c : Cursor) → r ≡ readBits s p n → r ≡ Value m c → T (leb n 8) → Fits w8 m
+byte-fits s p n r m c e t l = record { fits = omega (arith, value-lt s p n r m c e t (le→leb n 31 (omega (arith, leb→le n 8 l))), pow-mono (leb→le n 8 l)) }
+
+-- the settings with the deltas enabled and disabled
+module _ (old : LoopFilterParams) (l h e p : ℕ) where
+  pub filter-moved : (d : LoopDeltasValues) → e ≡ 1
+      → got (loopDeltasOf (withFlags old l h (eqb e 1) (old .«delta_update»)) d) p ≡ got (loopFilterOf old (record { level = l; sharpness = h; delta-enabled = e; deltas = d })) p
+  unfolding loopFilterOf
+  filter-moved d ee = rw (eq-eqb e 1 ee)
+
+  pub filter-plain : (e ≡ 1 → ⊥) → got (withFlags old l h (eqb e 1) (old .«delta_update»)) p ≡ got (loopFilterOf old (record { level = l; sharpness = h; delta-enabled = e; deltas = noLoopDeltas })) p
+  unfolding loopFilterOf
+  filter-plain ne = rw (ne-eqb e 1 ne)

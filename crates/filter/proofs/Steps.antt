@@ -1,0 +1,22 @@
+-- What a caller of each reader learns, as steps along its own reading.
+-- Assumes nothing.
+use Prim.Native.Nat.{ℕ}
+use mathlib.Core.Path.{_≡_}
+use mathlib.Core.List.{List}
+use Rattle.bits.specs.declared.Cursor.{Cursor}
+use Rattle.bits.specs.declared.Next.the-variants.{At, Refused}
+use Rattle.bits.specs.declared.Refusal.{Refusal}
+use Rattle.bits.specs.Reader.{Got, Read, refused, bind, over}
+use Rattle.types.specs.declared.loop_filter.LoopFilterParams.{LoopFilterParams}
+use Rattle.loop_deltas.specs.declared.LoopFilterRead.{LoopFilterRead}
+use Rattle.loop_deltas.specs.LoopDeltas.{viewLoopFilter}
+use Rattle.filter.specs.LoopFilter.{LoopFilterValues, readLoopFilter, loopFilterOf}
+use Rattle.loop_deltas.proofs.Steps.{settings-step, settings-stop}
+
+module _ {B D : Type 0} (s : List ℕ) (p : ℕ) (f : B → D) where
+  module _ (old : LoopFilterParams) (r : LoopFilterRead) (k : LoopFilterValues → ℕ → Read B) (e : viewLoopFilter r ≡ over (loopFilterOf old) (readLoopFilter s p)) where
+    pub loop-filter-step : (c : Cursor) (o : Got D) → r .next ≡ At c → ((a : LoopFilterValues) → r .lf ≡ loopFilterOf old a → o ≡ over f (k a (c .at))) → o ≡ over f (bind (readLoopFilter s p) k)
+    loop-filter-step = settings-step (loopFilterOf old) (readLoopFilter s p) f k r e
+
+    pub loop-filter-stop : (u : Refusal) → r .next ≡ Refused u → refused u ≡ over f (bind (readLoopFilter s p) k)
+    loop-filter-stop = settings-stop (loopFilterOf old) (readLoopFilter s p) f k r e

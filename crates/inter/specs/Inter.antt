@@ -1,0 +1,45 @@
+-- The picture of an inter frame (VP9 6.2): the slots that it writes and reads, sizes, motion.
+-- Assumes nothing.
+use mathlib.Core.List.{List, _++_}
+use Rattle.bits.specs.Syntax.{Field}
+use Rattle.bits.specs.Reader.{Reader, give, _>>=_}
+use Rattle.types.specs.declared.size.FrameSize.{FrameSize}
+use Rattle.color.specs.declared.Color.{Color}
+use Rattle.refs.specs.Refs.{refsOf}
+use Rattle.size_with_refs.specs.SizeWithRefs.{SizeWithRefsValues, noSizeWithRefs, sizeWithRefsFields, SizeWithRefsLacks, readSizeWithRefs, sizeWithRefsOf}
+use Rattle.refs.specs.Sources.{SourcesValues, noSources, sourcesFields, readSources, sourcesOf}
+use Rattle.motion.specs.Motion.{MotionValues, noMotion, motionFields, MotionLacks, readMotion, motionOf}
+use Rattle.picture.specs.declared.Picture.{Picture}
+
+pub record InterValues : Type 0 where
+  pub sources : SourcesValues
+  pub sizes : SizeWithRefsValues
+  pub motion : MotionValues
+
+abbrev pub noInter : InterValues
+noInter = record { sources = noSources; sizes = noSizeWithRefs; motion = noMotion }
+
+-- spelling
+unfoldable pub interFields : InterValues → List Field
+interFields v = sourcesFields (v .sources) ++ (sizeWithRefsFields (v .sizes) ++ motionFields (v .motion))
+
+unfoldable pub InterLacks : InterValues → Type 0
+InterLacks v = SizeWithRefsLacks (v .sizes) × MotionLacks (v .motion)
+
+-- reading
+unfoldable pub readInter : Reader InterValues
+readInter = do
+  x ← readSources
+  z ← readSizeWithRefs
+  m ← readMotion
+  give (record { sources = x; sizes = z; motion = m })
+
+-- record, from the remembered colour and sizes
+unfoldable pub interOf : Color → List FrameSize → InterValues → Picture
+interOf color slots v =
+    record {
+      color = color;
+      sources = sourcesOf (v .sources);
+      sizes = sizeWithRefsOf slots (refsOf (v .sources .refs)) (v .sizes);
+      motion = motionOf (v .motion);
+    }

@@ -1,0 +1,39 @@
+-- The slots that an inter frame writes and those that it reads (VP9 6.2).
+-- Assumes nothing.
+use Prim.Native.Nat.{ℕ}
+use mathlib.Core.List.{List, _∷_}
+use Rattle.bits.specs.Refusal.{the}
+use Rattle.bits.specs.Syntax.{Field, fld}
+use Rattle.bits.specs.Reader.{Got, got, refused, Reader, give, _>>=_, field}
+use Rattle.bits.specs.declared.Refusal.the-variants.{PastEnd}
+use Rattle.refs.specs.Refs.{RefsValues, noRefs, refsFields, readRefs, refsOf}
+use Rattle.refs.specs.declared.Sources.{Sources}
+use Rattle.refs.specs.declared.SourcesRead.{SourcesRead}
+use Rattle.refs.specs.declared.SourcesRead.the-variants.{Value, Short}
+
+pub record SourcesValues : Type 0 where
+  pub refresh-frame-flags : ℕ
+  pub refs : RefsValues
+
+abbrev pub noSources : SourcesValues
+noSources = record { refresh-frame-flags = 0; refs = noRefs }
+
+-- spelling
+unfoldable pub sourcesFields : SourcesValues → List Field
+sourcesFields v = fld (the "refresh_frame_flags") 8 (v .refresh-frame-flags) ∷ refsFields (v .refs)
+
+-- reading
+unfoldable pub readSources : Reader SourcesValues
+readSources = do
+  r ← field (the "refresh_frame_flags") 8
+  x ← readRefs
+  give (record { refresh-frame-flags = r; refs = x })
+
+-- record
+unfoldable pub sourcesOf : SourcesValues → Sources
+sourcesOf v = record { «refresh_frame_flags» = v .refresh-frame-flags; refs = refsOf (v .refs) }
+
+-- the code's answer
+abbrev pub viewSources : SourcesRead → Got Sources
+viewSources (Value a c) = got a (c .at)
+viewSources Short = refused PastEnd

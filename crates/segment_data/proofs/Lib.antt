@@ -1,0 +1,5 @@
+pub mod Laws
+pub mod Records
+pub mod Flat
+pub mod Filling
+pub mod Exact

@@ -1,0 +1,6 @@
+pub mod Laws
+pub mod Rows
+pub mod Records
+pub mod Filling
+pub mod Steps
+pub mod Exact

@@ -1,0 +1,4 @@
+pub mod Times
+pub mod Probs
+pub mod Answer
+pub mod Map

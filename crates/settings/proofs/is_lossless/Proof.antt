@@ -1,9 +1,0 @@
-use borrow.Author.Needs.{needs}
-use Rattle.settings.specs.Quantizer.{lossless}
-use Rattle.settings.proofs.Records.{zeros}
-use Rattle.settings.proofs.is_lossless.Statement.{statement}
-use Rattle.settings.proofs.is_lossless.Tie as tie
-
-pub is-lossless-spec : {M : Type 1} → statement M
-unfolding lossless
-is-lossless-spec = tie.close (tie.spec (λ c. search (needs, zeros)) (λ c. search (needs, zeros)) (λ c. search (needs, zeros)) (λ c. search (needs, zeros)))

@@ -1,4 +1,0 @@
-pub mod Filter
-pub mod LoopDeltas
-pub mod LoopFilter
-pub mod Quantizer

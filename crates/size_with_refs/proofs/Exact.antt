@@ -1,0 +1,17 @@
+-- Any two answers that meet the promise of a reading function are one.
+-- Assumes nothing.
+use Prim.Native.Nat.{ℕ}
+use mathlib.Core.Path.{_≡_, sym, _∙_}
+use mathlib.Core.List.{List}
+use Rattle.bits.specs.Refusal.{the}
+use Rattle.bits.specs.Reader.{over}
+use Rattle.types.specs.declared.size.FrameSize.{FrameSize}
+use Rattle.sizes.specs.declared.SizesRead.{SizesRead}
+use Rattle.refs.specs.declared.Refs.{Refs}
+use Rattle.sizes.specs.Sizes.{viewSizes}
+use Rattle.size_with_refs.specs.SizeWithRefs.{readSizeWithRefs, sizeWithRefsOf}
+use Rattle.sizes.proofs.Exact.{exact-sizes}
+
+pub one-size-with-refs : (slots : List FrameSize) (refs : Refs) (s : List ℕ) (p : ℕ) (r q : SizesRead)
+    → viewSizes r ≡ over (sizeWithRefsOf slots refs) (readSizeWithRefs s p) → viewSizes q ≡ over (sizeWithRefsOf slots refs) (readSizeWithRefs s p) → r ≡ q
+one-size-with-refs slots refs s p r q h k = exact-sizes r _ h ∙ sym (exact-sizes q _ k)

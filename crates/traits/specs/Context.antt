@@ -1,0 +1,55 @@
+-- refresh_frame_context, frame_parallel_decoding_mode and frame_context_idx (VP9 6.2).
+-- Assumes nothing.
+use Prim.Native.Nat.{ℕ}
+use mathlib.Core.Bool.{Bool, true, not}
+use mathlib.Core.List.{List, [], _∷_, _++_}
+use Rattle.bits.specs.Refusal.{the}
+use Rattle.bits.specs.Syntax.{Field, fld, flag, optional, Coded}
+use Rattle.bits.specs.Reader.{Got, got, refused, pick, Reader, give, _>>=_, field, fieldIf}
+use Rattle.bits.specs.declared.Refusal.the-variants.{PastEnd}
+use Rattle.traits.specs.declared.Context.{Context}
+use Rattle.traits.specs.declared.ContextRead.{ContextRead}
+use Rattle.traits.specs.declared.ContextRead.the-variants.{Value, Short}
+
+pub record ContextValues : Type 0 where
+  pub refresh-frame-context : ℕ
+  pub frame-parallel-decoding-mode : ℕ
+  pub frame-context-idx : ℕ
+
+abbrev pub noContext : ContextValues
+noContext = record { refresh-frame-context = 0; frame-parallel-decoding-mode = 0; frame-context-idx = 0 }
+
+-- spelling, for a frame that is error resilient or not
+unfoldable pub contextFields : Bool → ContextValues → List Field
+contextFields resilient v =
+    optional (not resilient) (fld (the "refresh_frame_context") 1 (v .refresh-frame-context) ∷ [])
+    ++ (optional (not resilient) (fld (the "frame_parallel_decoding_mode") 1 (v .frame-parallel-decoding-mode) ∷ [])
+    ++ (fld (the "frame_context_idx") 2 (v .frame-context-idx) ∷ []))
+
+unfoldable pub ContextLacks : Bool → ContextValues → Type 0
+ContextLacks resilient v = Coded (not resilient) (v .refresh-frame-context) × Coded (not resilient) (v .frame-parallel-decoding-mode)
+
+-- reading
+unfoldable pub readContext : Bool → Reader ContextValues
+readContext resilient = do
+  r ← fieldIf (not resilient) (the "refresh_frame_context") 1
+  m ← fieldIf (not resilient) (the "frame_parallel_decoding_mode") 1
+  i ← field (the "frame_context_idx") 2
+  give (record { refresh-frame-context = r; frame-parallel-decoding-mode = m; frame-context-idx = i })
+
+-- record: an error-resilient frame is decoded in parallel
+abbrev pub parallelOf : Bool → ℕ → Bool
+parallelOf resilient n = pick resilient true (flag n)
+
+unfoldable pub contextOf : Bool → ContextValues → Context
+contextOf resilient v =
+    record {
+      «refresh_frame_context» = flag (v .refresh-frame-context);
+      «frame_parallel_decoding_mode» = parallelOf resilient (v .frame-parallel-decoding-mode);
+      «frame_context_idx» = v .frame-context-idx;
+    }
+
+-- the code's answer
+abbrev pub viewContext : ContextRead → Got Context
+viewContext (Value a c) = got a (c .at)
+viewContext Short = refused PastEnd

@@ -1,0 +1,3 @@
+pub mod Traits
+pub mod Kind
+pub mod Context

@@ -1,0 +1,50 @@
+-- frame_type, show_frame and error_resilient_mode (VP9 6.2).
+-- Assumes nothing.
+use Prim.Native.Nat.{ℕ}
+use mathlib.Core.List.{List, [], _∷_}
+use lib.Dec.{eqb}
+use Rattle.bits.specs.Refusal.{the}
+use Rattle.bits.specs.Syntax.{Field, fld, flag}
+use Rattle.bits.specs.Reader.{Got, got, refused, Reader, give, _>>=_, field}
+use Rattle.bits.specs.declared.Refusal.the-variants.{PastEnd}
+use Rattle.traits.specs.declared.Traits.{Traits}
+use Rattle.traits.specs.declared.TraitsRead.{TraitsRead}
+use Rattle.traits.specs.declared.TraitsRead.the-variants.{Value, Short}
+
+pub record TraitsValues : Type 0 where
+  pub frame-type : ℕ
+  pub show-frame : ℕ
+  pub error-resilient-mode : ℕ
+
+abbrev pub noTraits : TraitsValues
+noTraits = record { frame-type = 0; show-frame = 0; error-resilient-mode = 0 }
+
+-- spelling
+unfoldable pub traitsFields : TraitsValues → List Field
+traitsFields v =
+    fld (the "frame_type") 1 (v .frame-type)
+    ∷ fld (the "show_frame") 1 (v .show-frame)
+    ∷ fld (the "error_resilient_mode") 1 (v .error-resilient-mode)
+    ∷ []
+
+-- reading
+unfoldable pub readTraits : Reader TraitsValues
+readTraits = do
+  t ← field (the "frame_type") 1
+  w ← field (the "show_frame") 1
+  e ← field (the "error_resilient_mode") 1
+  give (record { frame-type = t; show-frame = w; error-resilient-mode = e })
+
+-- record: a key frame has type 0
+unfoldable pub traitsOf : TraitsValues → Traits
+traitsOf v =
+    record {
+      key = eqb (v .frame-type) 0;
+      «show_frame» = flag (v .show-frame);
+      «error_resilient_mode» = flag (v .error-resilient-mode);
+    }
+
+-- the code's answer
+abbrev pub viewTraits : TraitsRead → Got Traits
+viewTraits (Value a c) = got a (c .at)
+viewTraits Short = refused PastEnd
