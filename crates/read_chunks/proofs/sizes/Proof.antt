@@ -1,0 +1,50 @@
+-- `read_chunks::sizes` is safe and ends: the index runs from 0 to 8.
+use Prim.Native.Nat.{_≤_, _-_}
+use borrow.Author.Needs.{needs}
+use Rattle.read_chunks.proofs.sizes.Statement.{statement}
+use Rattle.read_chunks.proofs.sizes.Tie as tie
+
+abbrev Inv-loop : tie.InvT-loop
+Inv-loop form s at₀ i₀ at i = i ≤ 8
+
+abbrev μ-loop : tie.MeasureT-loop
+μ-loop form s at₀ i₀ at i = 8 - i
+
+loop-holds : tie.Need-loop-holds Inv-loop μ-loop
+loop-holds c = search needs
+
+mul-size : tie.Need-mul-size Inv-loop μ-loop
+mul-size c = search needs
+
+array-copy-out-size : tie.Need-array-copy-out-size Inv-loop μ-loop
+array-copy-out-size c = search needs
+
+size-requires : tie.Need-size-requires Inv-loop μ-loop
+size-requires c κs = search needs
+
+add-i : tie.Need-add-i Inv-loop μ-loop
+add-i c = search needs
+
+loop-less : tie.Need-loop-less Inv-loop μ-loop
+loop-less c = search needs
+
+loop-again : tie.Need-loop-again Inv-loop μ-loop
+loop-again c = search needs
+
+returns : tie.Need-returns Inv-loop μ-loop
+returns c = search needs
+
+pub sizes-spec : {M : Type 1} → statement M
+sizes-spec =
+    tie.close
+    (tie.spec
+    Inv-loop
+    μ-loop
+    loop-holds
+    mul-size
+    array-copy-out-size
+    size-requires
+    add-i
+    loop-less
+    loop-again
+    returns)
