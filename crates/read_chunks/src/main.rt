@@ -19,12 +19,84 @@ use types::QuantizationParams;
 use types::ReaderState;
 use types::SegmentationParams;
 
-// A record is printed by its form: the text, with marks in it. # stands for a number, <a|b> for one of some words. Each value takes the form
-// and the place up to which it is printed, prints the text before its mark and itself, and answers the place after its mark.
+// Everything is printed by its form: the text, with marks in it. # stands for a number, <a|b> for one of some words, @ ends a form. Each value
+// takes the place up to which the forms are printed, prints the text before its mark and itself, and answers the place after its mark.
+
+const FRAME: usize = 1;
+
+const FILTER: usize = 2;
+
+const SEGMENTATION: usize = 4;
+
+const STATE: usize = 7;
+
+const SLOTS: usize = 8;
+
+enum Walk {
+    Print,
+    Skip,
+    // To the start of the form that has the number given for the place.
+    Form,
+}
+
+fn forms(at: usize, walk: Walk) -> usize {
+    walk_forms(
+        b"# refused # frame #\n@\
+        # # <key|intra|inter|show> # # # # # #\n\
+        \x20 Header { profile: Profile#, bit_depth: Depth#, subsampling_x: <false|true>, subsampling_y: <false|true>, \
+        color_space: <Unknown|Bt601|Bt709|Smpte170|Smpte240|Bt2020|Reserved2|CsSrgb>, color_range: <StudioSwing|FullSwing>, \
+        show_existing_frame: <false|true>, frame_to_show_map_idx: #, frame_type: <KeyFrame|InterFrame>, show_frame: <false|true>, \
+        error_resilient_mode: <false|true>, width: #, height: #, render_and_frame_size_different: <false|true>, render_width: #, \
+        render_height: #, intra_only: <false|true>, reset_frame_context: #, refresh_frame_flags: #, ref_frame_idx: [#, #, #], \
+        ref_frame_sign_bias: [#, #, #, #], allow_high_precision_mv: <false|true>, \
+        interpolation_filter: <EightTap|EightTapSmooth|EightTapSharp|Bilinear|Switchable>, refresh_frame_context: <false|true>, \
+        frame_parallel_decoding_mode: <false|true>, frame_context_idx: #@\
+        , lf: LoopFilterParams { level: #, sharpness: #, delta_enabled: <false|true>, delta_update: <false|true>, \
+        update_ref_delta: [<false|true>, <false|true>, <false|true>, <false|true>], ref_deltas: [#, #, #, #], \
+        update_mode_delta: [<false|true>, <false|true>], mode_deltas: [#, #] }@\
+        , quant: QuantizationParams { base_q_idx: #, delta_q_y_dc: #, delta_q_uv_dc: #, delta_q_uv_ac: # }@\
+        , seg: SegmentationParams { enabled: <false|true>, update_map: <false|true>, tree_probs: [#, #, #, #, #, #, #], \
+        pred_probs: [#, #, #], temporal_update: <false|true>, update_data: <false|true>, abs_or_delta_update: <false|true>, \
+        feature_enabled: [[<false|true>, <false|true>, <false|true>, <false|true>], [<false|true>, <false|true>, <false|true>, <false|true>], \
+        [<false|true>, <false|true>, <false|true>, <false|true>], [<false|true>, <false|true>, <false|true>, <false|true>], \
+        [<false|true>, <false|true>, <false|true>, <false|true>], [<false|true>, <false|true>, <false|true>, <false|true>], \
+        [<false|true>, <false|true>, <false|true>, <false|true>], [<false|true>, <false|true>, <false|true>, <false|true>]], \
+        feature_data: [[#, #, #, #], [#, #, #, #], [#, #, #, #], [#, #, #, #], [#, #, #, #], [#, #, #, #], [#, #, #, #], [#, #, #, #]] }@\
+        , tile_cols_log2: #, tile_rows_log2: #, lossless: <false|true>, header_size_in_bytes: #, uncompressed_header_size_in_bytes: # }\n@\
+        \x20 seg # Segmentation { lvl_lookup: [[#, #], [#, #], [#, #], [#, #]], luma_ac_quant_scale: #, luma_dc_quant_scale: #, \
+        chroma_ac_quant_scale: #, chroma_dc_quant_scale: #, reference_frame_enabled: <false|true>, reference_frame: #, \
+        reference_skip_enabled: <false|true> }\n@\
+        \x20 state ReaderState { bit_depth: Depth#, subsampling_x: <false|true>, subsampling_y: <false|true>, \
+        color_space: <Unknown|Bt601|Bt709|Smpte170|Smpte240|Bt2020|Reserved2|CsSrgb>, color_range: <StudioSwing|FullSwing>@\
+        , reference_frame_sz: [FrameSize { width: #, height: # }, FrameSize { width: #, height: # }, FrameSize { width: #, height: # }, \
+        FrameSize { width: #, height: # }, FrameSize { width: #, height: # }, FrameSize { width: #, height: # }, \
+        FrameSize { width: #, height: # }, FrameSize { width: #, height: # }] }\n@",
+        at,
+        walk,
+    )
+}
+
+fn walk_forms(form: &[u8], at: usize, walk: Walk) -> usize {
+    match walk {
+        Walk::Print => {
+            let end = next_mark(form, at);
+            if at <= end {
+                io::write_all(STDOUT_FILENO, &form[at..end]);
+            }
+            after(form, end)
+        }
+        Walk::Skip => after(form, next_mark(form, at)),
+        Walk::Form => nth_form(form, at),
+    }
+}
+
+fn after(form: &[u8], mark: usize) -> usize {
+    if mark < form.len() { mark + 1 } else { mark }
+}
 
 fn is_mark(c: u8) -> bool {
     match c {
-        b'#' | b'<' | b'|' | b'>' => true,
+        b'#' | b'<' | b'|' | b'>' | b'@' => true,
         _ => false,
     }
 }
@@ -40,33 +112,40 @@ fn next_mark(form: &[u8], at: usize) -> usize
     form.len()
 }
 
-// The text before the next mark, printed or left out.
-fn text(form: &[u8], at: usize, printed: bool) -> usize {
-    let end = next_mark(form, at);
-    if printed {
-        if at <= end {
-            io::write_all(STDOUT_FILENO, &form[at..end]);
+// The start of the n-th form, counted from 1.
+fn nth_form(form: &[u8], n: usize) -> usize {
+    let mut left = n;
+    for i in 0..form.len() {
+        if form[i] == b'@' {
+            if left <= 1 {
+                return i + 1;
+            }
+            left -= 1;
         }
     }
-    if end < form.len() { end + 1 } else { end }
+    form.len()
 }
 
-fn number(form: &[u8], at: usize, n: u64) -> usize {
-    let next = text(form, at, true);
+fn text(at: usize) -> usize {
+    forms(at, Walk::Print)
+}
+
+fn number(at: usize, n: u64) -> usize {
+    let next = text(at);
     io::print_decimal(STDOUT_FILENO, n);
     next
 }
 
-fn byte(form: &[u8], at: usize, n: u8) -> usize {
-    number(form, at, n as u64)
+fn byte(at: usize, n: u8) -> usize {
+    number(at, n as u64)
 }
 
-fn short(form: &[u8], at: usize, n: u16) -> usize {
-    number(form, at, n as u64)
+fn short(at: usize, n: u16) -> usize {
+    number(at, n as u64)
 }
 
-fn word(form: &[u8], at: usize, n: u32) -> usize {
-    number(form, at, n as u64)
+fn word(at: usize, n: u32) -> usize {
+    number(at, n as u64)
 }
 
 fn print_signed(n: i16) {
@@ -78,268 +157,242 @@ fn print_signed(n: i16) {
     }
 }
 
-fn signed(form: &[u8], at: usize, n: i16) -> usize {
-    let next = text(form, at, true);
+fn signed(at: usize, n: i16) -> usize {
+    let next = text(at);
     print_signed(n);
     next
 }
 
-fn signed_byte(form: &[u8], at: usize, n: i8) -> usize {
-    signed(form, at, n as i16)
+fn signed_byte(at: usize, n: i8) -> usize {
+    signed(at, n as i16)
 }
 
 // The k-th of so many words, counted from 0.
-fn choice(form: &[u8], at: usize, words: u32, k: u32) -> usize {
-    let mut next = text(form, at, true);
+fn choice(at: usize, words: u32, k: u32) -> usize {
+    let mut next = text(at);
     for i in 0..words {
-        next = text(form, next, i == k);
+        if i == k {
+            next = text(next);
+        } else {
+            next = forms(next, Walk::Skip);
+        }
     }
     next
 }
 
-fn flag(form: &[u8], at: usize, b: bool) -> usize {
+fn flag(at: usize, b: bool) -> usize {
     if b {
-        choice(form, at, 2, 1)
+        choice(at, 2, 1)
     } else {
-        choice(form, at, 2, 0)
+        choice(at, 2, 0)
     }
 }
 
-fn bytes(form: &[u8], at: usize, s: &[u8]) -> usize {
+fn bytes(at: usize, s: &[u8]) -> usize {
     let mut next = at;
     for i in 0..s.len() {
-        next = byte(form, next, s[i]);
-    }
-    next
-}
-
-fn signed_bytes(form: &[u8], at: usize, s: &[i8]) -> usize {
-    let mut next = at;
-    for i in 0..s.len() {
-        next = signed_byte(form, next, s[i]);
+        next = byte(next, s[i]);
     }
     next
 }
 
-fn signed_shorts(form: &[u8], at: usize, s: &[i16]) -> usize {
+fn signed_bytes(at: usize, s: &[i8]) -> usize {
     let mut next = at;
     for i in 0..s.len() {
-        next = signed(form, next, s[i]);
+        next = signed_byte(next, s[i]);
     }
     next
 }
 
-fn flags(form: &[u8], at: usize, s: &[bool]) -> usize {
+fn signed_shorts(at: usize, s: &[i16]) -> usize {
     let mut next = at;
     for i in 0..s.len() {
-        next = flag(form, next, s[i]);
+        next = signed(next, s[i]);
+    }
+    next
+}
+
+fn flags(at: usize, s: &[bool]) -> usize {
+    let mut next = at;
+    for i in 0..s.len() {
+        next = flag(next, s[i]);
     }
     next
 }
 
 // The records.
 
-fn colors(form: &[u8], at: usize, depth: BitDepth, x: bool, y: bool, space: ColorSpace, range: ColorRange) -> usize {
-    let at = word(form, at, depth.number());
-    let at = flag(form, at, x);
-    let at = flag(form, at, y);
-    let at = choice(form, at, 8, space.number());
-    choice(form, at, 2, range.number())
+fn colors(
+    at: usize,
+    depth: BitDepth,
+    x: bool,
+    y: bool,
+    space: ColorSpace,
+    range: ColorRange,
+) -> usize {
+    let at = word(at, depth.number());
+    let at = flag(at, x);
+    let at = flag(at, y);
+    let at = choice(at, 8, space.number());
+    choice(at, 2, range.number())
 }
 
-fn filter_levels(form: &[u8], at: usize, lf: LoopFilterParams) -> usize {
-    let at = byte(form, at, lf.level);
-    let at = byte(form, at, lf.sharpness);
-    let at = flag(form, at, lf.delta_enabled);
-    flag(form, at, lf.delta_update)
-}
-
-fn filter_deltas(form: &[u8], at: usize, lf: LoopFilterParams) -> usize {
+fn filter_deltas(at: usize, lf: LoopFilterParams) -> usize {
     let update_ref_delta = lf.update_ref_delta;
     let ref_deltas = lf.ref_deltas;
     let update_mode_delta = lf.update_mode_delta;
     let mode_deltas = lf.mode_deltas;
-    let at = flags(form, at, &update_ref_delta);
-    let at = signed_bytes(form, at, &ref_deltas);
-    let at = flags(form, at, &update_mode_delta);
-    signed_bytes(form, at, &mode_deltas)
+    let at = flags(at, &update_ref_delta);
+    let at = signed_bytes(at, &ref_deltas);
+    let at = flags(at, &update_mode_delta);
+    signed_bytes(at, &mode_deltas)
 }
 
-fn loop_filter(lf: LoopFilterParams) {
-    let form = b", lf: LoopFilterParams { level: #, sharpness: #, delta_enabled: <false|true>, delta_update: <false|true>, update_ref_delta: [<false|true>, <false|true>, <false|true>, <false|true>], ref_deltas: [#, #, #, #], update_mode_delta: [<false|true>, <false|true>], mode_deltas: [#, #] }";
-    let at = filter_levels(form, 0, lf);
-    let at = filter_deltas(form, at, lf);
-    text(form, at, true);
+fn loop_filter(at: usize, lf: LoopFilterParams) -> usize {
+    let at = byte(at, lf.level);
+    let at = byte(at, lf.sharpness);
+    let at = flag(at, lf.delta_enabled);
+    let at = flag(at, lf.delta_update);
+    text(filter_deltas(at, lf))
 }
 
-fn quantization(q: QuantizationParams) {
-    let form = b", quant: QuantizationParams { base_q_idx: #, delta_q_y_dc: #, delta_q_uv_dc: #, delta_q_uv_ac: # }";
-    let at = byte(form, 0, q.base_q_idx);
-    let at = signed_byte(form, at, q.delta_q_y_dc);
-    let at = signed_byte(form, at, q.delta_q_uv_dc);
-    let at = signed_byte(form, at, q.delta_q_uv_ac);
-    text(form, at, true);
+fn quantization(at: usize, q: QuantizationParams) -> usize {
+    let at = byte(at, q.base_q_idx);
+    let at = signed_byte(at, q.delta_q_y_dc);
+    let at = signed_byte(at, q.delta_q_uv_dc);
+    text(signed_byte(at, q.delta_q_uv_ac))
 }
 
-fn segment_probs(form: &[u8], at: usize, seg: SegmentationParams) -> usize {
+fn segment_probs(at: usize, seg: SegmentationParams) -> usize {
     let tree_probs = seg.tree_probs;
     let pred_probs = seg.pred_probs;
-    let at = bytes(form, at, &tree_probs);
-    bytes(form, at, &pred_probs)
+    bytes(bytes(at, &tree_probs), &pred_probs)
 }
 
-fn segment_features(form: &[u8], at: usize, seg: SegmentationParams) -> usize {
+fn segment_features(at: usize, seg: SegmentationParams) -> usize {
     let feature_enabled = seg.feature_enabled;
     let feature_data = seg.feature_data;
-    let at = flags(form, at, &feature_enabled);
-    signed_shorts(form, at, &feature_data)
+    signed_shorts(flags(at, &feature_enabled), &feature_data)
 }
 
-fn segmentation(seg: SegmentationParams) {
-    let form = b", seg: SegmentationParams { enabled: <false|true>, update_map: <false|true>, tree_probs: [#, #, #, #, #, #, #], pred_probs: [#, #, #], temporal_update: <false|true>, update_data: <false|true>, abs_or_delta_update: <false|true>, feature_enabled: [[<false|true>, <false|true>, <false|true>, <false|true>], [<false|true>, <false|true>, <false|true>, <false|true>], [<false|true>, <false|true>, <false|true>, <false|true>], [<false|true>, <false|true>, <false|true>, <false|true>], [<false|true>, <false|true>, <false|true>, <false|true>], [<false|true>, <false|true>, <false|true>, <false|true>], [<false|true>, <false|true>, <false|true>, <false|true>], [<false|true>, <false|true>, <false|true>, <false|true>]], feature_data: [[#, #, #, #], [#, #, #, #], [#, #, #, #], [#, #, #, #], [#, #, #, #], [#, #, #, #], [#, #, #, #], [#, #, #, #]] }";
-    let at = flag(form, 0, seg.enabled);
-    let at = flag(form, at, seg.update_map);
-    let at = segment_probs(form, at, seg);
-    let at = flag(form, at, seg.temporal_update);
-    let at = flag(form, at, seg.update_data);
-    let at = flag(form, at, seg.abs_or_delta_update);
-    let at = segment_features(form, at, seg);
-    text(form, at, true);
+fn segmentation(at: usize, seg: SegmentationParams) -> usize {
+    let at = flag(at, seg.enabled);
+    let at = flag(at, seg.update_map);
+    let at = segment_probs(at, seg);
+    let at = flag(at, seg.temporal_update);
+    let at = flag(at, seg.update_data);
+    let at = flag(at, seg.abs_or_delta_update);
+    text(segment_features(at, seg))
 }
 
-fn header_kind(form: &[u8], at: usize, h: Header) -> usize {
-    let frame_type = h.frame_type;
-    let at = flag(form, at, h.show_existing_frame);
-    let at = byte(form, at, h.frame_to_show_map_idx);
-    let at = choice(form, at, 2, frame_type.number() as u32);
-    let at = flag(form, at, h.show_frame);
-    flag(form, at, h.error_resilient_mode)
-}
-
-fn header_sizes(form: &[u8], at: usize, h: Header) -> usize {
-    let at = word(form, at, h.width);
-    let at = word(form, at, h.height);
-    let at = flag(form, at, h.render_and_frame_size_different);
-    let at = word(form, at, h.render_width);
-    word(form, at, h.render_height)
-}
-
-fn header_intra(form: &[u8], at: usize, h: Header) -> usize {
-    let at = flag(form, at, h.intra_only);
-    let at = byte(form, at, h.reset_frame_context);
-    byte(form, at, h.refresh_frame_flags)
-}
-
-fn header_refs(form: &[u8], at: usize, h: Header) -> usize {
-    let ref_frame_idx = h.ref_frame_idx;
-    let ref_frame_sign_bias = h.ref_frame_sign_bias;
-    let at = bytes(form, at, &ref_frame_idx);
-    bytes(form, at, &ref_frame_sign_bias)
-}
-
-fn header_contexts(form: &[u8], at: usize, h: Header) -> usize {
-    let filter = h.interpolation_filter;
-    let at = flag(form, at, h.allow_high_precision_mv);
-    let at = choice(form, at, 5, filter.number());
-    let at = flag(form, at, h.refresh_frame_context);
-    let at = flag(form, at, h.frame_parallel_decoding_mode);
-    byte(form, at, h.frame_context_idx)
-}
-
-fn header_colors(form: &[u8], at: usize, h: Header) -> usize {
+fn header_colors(at: usize, h: Header) -> usize {
     let profile = h.profile;
     let depth = h.bit_depth;
     let space = h.color_space;
     let range = h.color_range;
-    let at = word(form, at, profile.number());
-    colors(form, at, depth, h.subsampling_x, h.subsampling_y, space, range)
+    let at = word(at, profile.number());
+    colors(at, depth, h.subsampling_x, h.subsampling_y, space, range)
 }
 
-fn header_front(h: Header) {
-    let form = b"  Header { profile: Profile#, bit_depth: Depth#, subsampling_x: <false|true>, subsampling_y: <false|true>, color_space: <Unknown|Bt601|Bt709|Smpte170|Smpte240|Bt2020|Reserved2|CsSrgb>, color_range: <StudioSwing|FullSwing>, show_existing_frame: <false|true>, frame_to_show_map_idx: #, frame_type: <KeyFrame|InterFrame>, show_frame: <false|true>, error_resilient_mode: <false|true>, width: #, height: #, render_and_frame_size_different: <false|true>, render_width: #, render_height: #, intra_only: <false|true>, reset_frame_context: #, refresh_frame_flags: #, ref_frame_idx: [#, #, #], ref_frame_sign_bias: [#, #, #, #], allow_high_precision_mv: <false|true>, interpolation_filter: <EightTap|EightTapSmooth|EightTapSharp|Bilinear|Switchable>, refresh_frame_context: <false|true>, frame_parallel_decoding_mode: <false|true>, frame_context_idx: #";
-    let at = header_colors(form, 0, h);
-    let at = header_kind(form, at, h);
-    let at = header_sizes(form, at, h);
-    let at = header_intra(form, at, h);
-    let at = header_refs(form, at, h);
-    header_contexts(form, at, h);
+fn header_picture(at: usize, h: Header) -> usize {
+    let frame_type = h.frame_type;
+    let at = flag(at, h.show_existing_frame);
+    let at = byte(at, h.frame_to_show_map_idx);
+    let at = choice(at, 2, frame_type.number() as u32);
+    let at = flag(at, h.show_frame);
+    let at = flag(at, h.error_resilient_mode);
+    let at = word(at, h.width);
+    let at = word(at, h.height);
+    let at = flag(at, h.render_and_frame_size_different);
+    let at = word(at, h.render_width);
+    word(at, h.render_height)
 }
 
-fn header_end(h: Header) {
-    let form = b", tile_cols_log2: #, tile_rows_log2: #, lossless: <false|true>, header_size_in_bytes: #, uncompressed_header_size_in_bytes: # }\n";
-    let at = byte(form, 0, h.tile_cols_log2);
-    let at = byte(form, at, h.tile_rows_log2);
-    let at = flag(form, at, h.lossless);
-    let at = short(form, at, h.header_size_in_bytes);
-    let at = short(form, at, h.uncompressed_header_size_in_bytes);
-    text(form, at, true);
+fn header_refs(at: usize, h: Header) -> usize {
+    let ref_frame_idx = h.ref_frame_idx;
+    let ref_frame_sign_bias = h.ref_frame_sign_bias;
+    bytes(bytes(at, &ref_frame_idx), &ref_frame_sign_bias)
 }
 
-fn print_header(h: Header) {
-    header_front(h);
-    loop_filter(h.lf);
-    quantization(h.quant);
-    segmentation(h.seg);
-    header_end(h);
+fn header_sources(at: usize, h: Header) -> usize {
+    let filter = h.interpolation_filter;
+    let at = flag(at, h.intra_only);
+    let at = byte(at, h.reset_frame_context);
+    let at = byte(at, h.refresh_frame_flags);
+    let at = header_refs(at, h);
+    let at = flag(at, h.allow_high_precision_mv);
+    let at = choice(at, 5, filter.number());
+    let at = flag(at, h.refresh_frame_context);
+    let at = flag(at, h.frame_parallel_decoding_mode);
+    text(byte(at, h.frame_context_idx))
+}
+
+fn header_end(at: usize, h: Header) -> usize {
+    let at = byte(at, h.tile_cols_log2);
+    let at = byte(at, h.tile_rows_log2);
+    let at = flag(at, h.lossless);
+    let at = short(at, h.header_size_in_bytes);
+    text(short(at, h.uncompressed_header_size_in_bytes))
+}
+
+fn print_header(at: usize, h: Header) -> usize {
+    let at = header_colors(at, h);
+    let at = header_picture(at, h);
+    let at = header_sources(at, h);
+    let at = loop_filter(at, h.lf);
+    let at = quantization(at, h.quant);
+    let at = segmentation(at, h.seg);
+    header_end(at, h)
 }
 
 fn state_colors(st: ReaderState) {
-    let form = b"  state ReaderState { bit_depth: Depth#, subsampling_x: <false|true>, subsampling_y: <false|true>, color_space: <Unknown|Bt601|Bt709|Smpte170|Smpte240|Bt2020|Reserved2|CsSrgb>, color_range: <StudioSwing|FullSwing>";
     let depth = st.bit_depth;
     let space = st.color_space;
     let range = st.color_range;
-    colors(form, 0, depth, st.subsampling_x, st.subsampling_y, space, range);
+    let at = forms(STATE, Walk::Form);
+    text(colors(at, depth, st.subsampling_x, st.subsampling_y, space, range));
 }
 
-fn size(form: &[u8], at: usize, s: FrameSize) -> usize {
-    let at = word(form, at, s.width);
-    word(form, at, s.height)
+fn size(at: usize, s: FrameSize) -> usize {
+    word(word(at, s.width), s.height)
 }
 
-fn sizes(form: &[u8], s: [FrameSize; ReaderState::REF_FRAMES]) -> usize {
-    let mut at = 0;
+fn print_slots(s: [FrameSize; ReaderState::REF_FRAMES]) {
+    let mut at = forms(SLOTS, Walk::Form);
     for i in 0..8usize {
-        at = size(form, at, s[i]);
+        at = size(at, s[i]);
     }
-    at
-}
-
-fn state_sizes(s: [FrameSize; ReaderState::REF_FRAMES]) {
-    let form = b", reference_frame_sz: [FrameSize { width: #, height: # }, FrameSize { width: #, height: # }, FrameSize { width: #, height: # }, FrameSize { width: #, height: # }, FrameSize { width: #, height: # }, FrameSize { width: #, height: # }, FrameSize { width: #, height: # }, FrameSize { width: #, height: # }] }\n";
-    let at = sizes(form, s);
-    text(form, at, true);
+    text(at);
 }
 
 fn print_state(st: ReaderState) {
     state_colors(st);
-    loop_filter(st.lf);
-    segmentation(st.seg);
-    let reference_frame_sz = st.reference_frame_sz;
-    state_sizes(reference_frame_sz);
+    loop_filter(forms(FILTER, Walk::Form), st.lf);
+    segmentation(forms(SEGMENTATION, Walk::Form), st.seg);
+    let slots = st.reference_frame_sz;
+    print_slots(slots);
 }
 
-fn scales(form: &[u8], at: usize, s: Segmentation) -> usize {
-    let at = signed(form, at, s.luma_ac_quant_scale);
-    let at = signed(form, at, s.luma_dc_quant_scale);
-    let at = signed(form, at, s.chroma_ac_quant_scale);
-    signed(form, at, s.chroma_dc_quant_scale)
-}
-
-fn print_segment(i: u32, s: Segmentation) {
-    let form = b"  seg # Segmentation { lvl_lookup: [[#, #], [#, #], [#, #], [#, #]], luma_ac_quant_scale: #, luma_dc_quant_scale: #, chroma_ac_quant_scale: #, chroma_dc_quant_scale: #, reference_frame_enabled: <false|true>, reference_frame: #, reference_skip_enabled: <false|true> }\n";
+fn segment_levels(at: usize, s: Segmentation) -> usize {
     let lvl_lookup = s.lvl_lookup;
-    let at = word(form, 0, i);
-    let at = bytes(form, at, &lvl_lookup);
-    let at = scales(form, at, s);
-    let at = flag(form, at, s.reference_frame_enabled);
-    let at = signed(form, at, s.reference_frame);
-    let at = flag(form, at, s.reference_skip_enabled);
-    text(form, at, true);
+    bytes(at, &lvl_lookup)
 }
 
-fn print_segments(s: [Segmentation; 8]) {
+fn print_segment(at: usize, i: u32, s: Segmentation) {
+    let at = word(at, i);
+    let at = segment_levels(at, s);
+    let at = signed(at, s.luma_ac_quant_scale);
+    let at = signed(at, s.luma_dc_quant_scale);
+    let at = signed(at, s.chroma_ac_quant_scale);
+    let at = signed(at, s.chroma_dc_quant_scale);
+    let at = flag(at, s.reference_frame_enabled);
+    let at = signed(at, s.reference_frame);
+    text(flag(at, s.reference_skip_enabled));
+}
+
+fn print_segments(at: usize, s: [Segmentation; 8]) {
     for i in 0..8u32 {
-        print_segment(i, s[i as usize]);
+        print_segment(at, i, s[i as usize]);
     }
 }
 
@@ -352,70 +405,84 @@ fn kind(h: Header) -> u32 {
     }
     match frame_type {
         FrameType::KeyFrame => 0,
-        FrameType::InterFrame => {
-            if h.intra_only {
-                1
-            } else {
-                2
-            }
-        }
+        FrameType::InterFrame => { if h.intra_only { 1 } else { 2 } }
     }
 }
 
-fn summary(form: &[u8], at: usize, h: Header) {
-    let at = word(form, at, h.width);
-    let at = word(form, at, h.height);
-    let at = byte(form, at, h.refresh_frame_flags);
-    let at = short(form, at, h.uncompressed_header_size_in_bytes);
-    text(form, at, true);
+fn print_place(chunk: u64, frame: usize, kind: u32, at: usize, size: usize) -> usize {
+    let next = number(forms(FRAME, Walk::Form), chunk);
+    let next = number(next, frame as u64);
+    let next = choice(next, 4, kind);
+    let next = number(next, at as u64);
+    number(next, size as u64)
 }
 
-fn print_frame(chunk: u64, frame: usize, at: usize, size: usize, h: Header) {
-    let form = b"# # <key|intra|inter|show> # # # # # #\n";
-    let next = number(form, 0, chunk);
-    let next = number(form, next, frame as u64);
-    let next = choice(form, next, 4, kind(h));
-    let next = number(form, next, at as u64);
-    let next = number(form, next, size as u64);
-    summary(form, next, h);
-    print_header(h);
+// The place of a frame in its chunk, of so many frames.
+struct Place {
+    chunk: u64,
+    frames: usize,
+    frame: usize,
+    at: usize,
+    size: usize,
 }
 
-// Each frame with the segment records after it, which are handed on.
-fn print_frames(chunk: u64, frames: usize, read: ChunkRead, old: [Segmentation; 8]) -> [Segmentation; 8] {
+// A frame's line and its header.
+fn print_frame(at: usize, h: Header) -> usize {
+    let at = word(at, h.width);
+    let at = word(at, h.height);
+    let at = byte(at, h.refresh_frame_flags);
+    let at = short(at, h.uncompressed_header_size_in_bytes);
+    print_header(at, h)
+}
+
+// A frame with the segment records after it, which are handed on; a place with no frame changes nothing.
+fn list_frame(place: Place, h: Header, old: [Segmentation; 8]) -> [Segmentation; 8] {
+    if place.frame >= place.frames {
+        return old;
+    }
+    let segments = Segmentation::update_segmentation(old, h);
+    let at = print_place(place.chunk, place.frame, kind(h), place.at, place.size);
+    print_segments(print_frame(at, h), segments);
+    segments
+}
+
+fn print_frames(
+    chunk: u64,
+    frames: usize,
+    read: ChunkRead,
+    old: [Segmentation; 8],
+) -> [Segmentation; 8] {
     let at = read.at;
     let size = read.size;
     let headers = read.headers;
     let mut segments = old;
     for i in 0..8usize {
-        if i < frames {
-            let h = headers[i];
-            let after = Segmentation::update_segmentation(segments, h);
-            print_frame(chunk, i, at[i], size[i], h);
-            print_segments(after);
-            segments = after;
-        }
+        let place = Place {
+            chunk,
+            frames,
+            frame: i,
+            at: at[i],
+            size: size[i],
+        };
+        let after = list_frame(place, headers[i], segments);
+        segments = after;
     }
     segments
 }
 
-fn print_refusal(chunk: u64, answer: Answer) {
-    let form = b"# refused # frame #\n";
-    let at = number(form, 0, chunk);
-    let at = byte(form, at, answer.number());
-    let at = number(form, at, answer.frame() as u64);
-    text(form, at, true);
+fn print_refusal(chunk: u64, refusal: u8, frame: usize) {
+    let at = number(0, chunk);
+    let at = byte(at, refusal);
+    text(number(at, frame as u64));
 }
 
 fn print_answer(chunk: u64, read: ChunkRead, segments: [Segmentation; 8]) -> [Segmentation; 8] {
     let answer = read.answer;
-    match answer {
-        Answer::Frames(n) => print_frames(chunk, n, read, segments),
-        _ => {
-            print_refusal(chunk, answer);
-            segments
-        }
-    }
+    let Answer::Frames(n) = answer else {
+        print_refusal(chunk, answer.number(), answer.frame());
+        return segments;
+    };
+    print_frames(chunk, n, read, segments)
 }
 
 // What is remembered from chunk to chunk: the number of the next one, the reader's state and the segment records.

@@ -5,10 +5,10 @@ use Rattle.read_chunks.proofs.choice.Statement.{statement}
 use Rattle.read_chunks.proofs.choice.Tie as tie
 
 abbrev Inv-loop : tie.InvT-loop
-Inv-loop form at words k next₀ i₀ next i = Unit {0}
+Inv-loop at words k next₀ i₀ next i = Unit {0}
 
 abbrev μ-loop : tie.MeasureT-loop
-μ-loop form at words k next₀ i₀ next i = words - i
+μ-loop at words k next₀ i₀ next i = words - i
 
 text-requires : tie.Need-text-requires Inv-loop μ-loop
 text-requires c κs = search needs
@@ -18,6 +18,9 @@ loop-holds c = search needs
 
 text-requires-2 : tie.Need-text-requires-2 Inv-loop μ-loop
 text-requires-2 c κs = search needs
+
+forms-requires : tie.Need-forms-requires Inv-loop μ-loop
+forms-requires c κs = search needs
 
 add-i : tie.Need-add-i Inv-loop μ-loop
 add-i c = search needs
@@ -40,6 +43,7 @@ choice-spec =
     text-requires
     loop-holds
     text-requires-2
+    forms-requires
     add-i
     loop-less
     loop-again

@@ -13,32 +13,26 @@ abbrev μ-loop : tie.MeasureT-loop
 loop-holds : tie.Need-loop-holds Inv-loop μ-loop
 loop-holds c = search needs
 
-mul-h : tie.Need-mul-h Inv-loop μ-loop
-mul-h c = search needs
+mul-t13 : tie.Need-mul-t13 Inv-loop μ-loop
+mul-t13 c = search needs
 
-array-copy-out-h : tie.Need-array-copy-out-h Inv-loop μ-loop
-array-copy-out-h c = search needs
+array-read-t16 : tie.Need-array-read-t16 Inv-loop μ-loop
+array-read-t16 c = search needs
 
-update-segmentation-requires : tie.Need-update-segmentation-requires Inv-loop μ-loop
-update-segmentation-requires c κs = search needs
+mul-t17 : tie.Need-mul-t17 Inv-loop μ-loop
+mul-t17 c = search needs
 
-mul-print-frame : tie.Need-mul-print-frame Inv-loop μ-loop
-mul-print-frame c = search needs
+array-read-t20 : tie.Need-array-read-t20 Inv-loop μ-loop
+array-read-t20 c = search needs
 
-array-read-print-frame : tie.Need-array-read-print-frame Inv-loop μ-loop
-array-read-print-frame c = search needs
+mul-list-frame : tie.Need-mul-list-frame Inv-loop μ-loop
+mul-list-frame c = search needs
 
-mul-print-frame-2 : tie.Need-mul-print-frame-2 Inv-loop μ-loop
-mul-print-frame-2 c = search needs
+array-copy-out-list-frame : tie.Need-array-copy-out-list-frame Inv-loop μ-loop
+array-copy-out-list-frame c = search needs
 
-array-read-print-frame-2 : tie.Need-array-read-print-frame-2 Inv-loop μ-loop
-array-read-print-frame-2 c = search needs
-
-print-frame-requires : tie.Need-print-frame-requires Inv-loop μ-loop
-print-frame-requires c κs = search needs
-
-print-segments-requires : tie.Need-print-segments-requires Inv-loop μ-loop
-print-segments-requires c κs = search needs
+list-frame-requires : tie.Need-list-frame-requires Inv-loop μ-loop
+list-frame-requires c κs = search needs
 
 add-i : tie.Need-add-i Inv-loop μ-loop
 add-i c = search needs
@@ -59,15 +53,13 @@ print-frames-spec =
     Inv-loop
     μ-loop
     loop-holds
-    mul-h
-    array-copy-out-h
-    update-segmentation-requires
-    mul-print-frame
-    array-read-print-frame
-    mul-print-frame-2
-    array-read-print-frame-2
-    print-frame-requires
-    print-segments-requires
+    mul-t13
+    array-read-t16
+    mul-t17
+    array-read-t20
+    mul-list-frame
+    array-copy-out-list-frame
+    list-frame-requires
     add-i
     loop-less
     loop-again

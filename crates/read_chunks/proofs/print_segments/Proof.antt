@@ -5,10 +5,10 @@ use Rattle.read_chunks.proofs.print_segments.Statement.{statement}
 use Rattle.read_chunks.proofs.print_segments.Tie as tie
 
 abbrev Inv-loop : tie.InvT-loop
-Inv-loop s i₀ i = i ≤ 8
+Inv-loop at s i₀ i = i ≤ 8
 
 abbrev μ-loop : tie.MeasureT-loop
-μ-loop s i₀ i = 8 - i
+μ-loop at s i₀ i = 8 - i
 
 loop-holds : tie.Need-loop-holds Inv-loop μ-loop
 loop-holds c = search needs

@@ -5,7 +5,7 @@ use Rattle.read_chunks.proofs.signed_byte.Statement.{statement}
 use Rattle.read_chunks.proofs.signed_byte.Tie as tie
 
 cast-signed : tie.Need-cast-signed
-cast-signed c = let f = c .before .fits .n in rw (toZ-ofZ f) (sfits-widen tt f)
+cast-signed c = let f = c .fits .n in rw (toZ-ofZ f) (sfits-widen tt f)
 
 signed-requires : tie.Need-signed-requires
 signed-requires c κs = search needs

@@ -7,10 +7,10 @@ use Rattle.read_chunks.proofs.signed_shorts.Statement.{statement}
 use Rattle.read_chunks.proofs.signed_shorts.Tie as tie
 
 abbrev Inv-loop : tie.InvT-loop
-Inv-loop form at s next₀ i₀ i-end next i = i-end ≡ length s
+Inv-loop at s next₀ i₀ i-end next i = i-end ≡ length s
 
 abbrev μ-loop : tie.MeasureT-loop
-μ-loop form at s next₀ i₀ i-end next i = i-end - i
+μ-loop at s next₀ i₀ i-end next i = i-end - i
 
 loop-holds : tie.Need-loop-holds Inv-loop μ-loop
 loop-holds c = search needs

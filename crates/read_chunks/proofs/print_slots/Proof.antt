@@ -1,14 +1,17 @@
--- `read_chunks::sizes` is safe and ends: the index runs from 0 to 8.
+-- `read_chunks::print_slots` is safe and ends: the index runs from 0 to 8.
 use Prim.Native.Nat.{_≤_, _-_}
 use borrow.Author.Needs.{needs}
-use Rattle.read_chunks.proofs.sizes.Statement.{statement}
-use Rattle.read_chunks.proofs.sizes.Tie as tie
+use Rattle.read_chunks.proofs.print_slots.Statement.{statement}
+use Rattle.read_chunks.proofs.print_slots.Tie as tie
 
 abbrev Inv-loop : tie.InvT-loop
-Inv-loop form s at₀ i₀ at i = i ≤ 8
+Inv-loop s at₀ i₀ at i = i ≤ 8
 
 abbrev μ-loop : tie.MeasureT-loop
-μ-loop form s at₀ i₀ at i = 8 - i
+μ-loop s at₀ i₀ at i = 8 - i
+
+forms-requires : tie.Need-forms-requires Inv-loop μ-loop
+forms-requires c κs = search needs
 
 loop-holds : tie.Need-loop-holds Inv-loop μ-loop
 loop-holds c = search needs
@@ -31,15 +34,19 @@ loop-less c = search needs
 loop-again : tie.Need-loop-again Inv-loop μ-loop
 loop-again c = search needs
 
+text-requires : tie.Need-text-requires Inv-loop μ-loop
+text-requires c κs = search needs
+
 returns : tie.Need-returns Inv-loop μ-loop
 returns c = search needs
 
-pub sizes-spec : {M : Type 1} → statement M
-sizes-spec =
+pub print-slots-spec : {M : Type 1} → statement M
+print-slots-spec =
     tie.close
     (tie.spec
     Inv-loop
     μ-loop
+    forms-requires
     loop-holds
     mul-size
     array-copy-out-size
@@ -47,4 +54,5 @@ sizes-spec =
     add-i
     loop-less
     loop-again
+    text-requires
     returns)
