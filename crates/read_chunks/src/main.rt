@@ -19,7 +19,7 @@ use types::QuantizationParams;
 use types::ReaderState;
 use types::SegmentationParams;
 
-// Everything is printed by its form: the text, with marks in it. # stands for a number, <a|b> for one of some words, @ ends a form. Each value
+// Everything is printed by its form: the text, with marks in it. # stands for a number, ? for true or false, <a|b> for one of some words, @ ends a form. Each value
 // takes the place up to which the forms are printed, prints the text before its mark and itself, and answers the place after its mark.
 
 const FRAME: usize = 1;
@@ -43,30 +43,30 @@ fn forms(at: usize, walk: Walk) -> usize {
     walk_forms(
         b"# refused # frame #\n@\
         # # <key|intra|inter|show> # # # # # #\n\
-        \x20 Header { profile: Profile#, bit_depth: Depth#, subsampling_x: <false|true>, subsampling_y: <false|true>, \
+        \x20 Header { profile: Profile#, bit_depth: Depth#, subsampling_x: ?, subsampling_y: ?, \
         color_space: <Unknown|Bt601|Bt709|Smpte170|Smpte240|Bt2020|Reserved2|CsSrgb>, color_range: <StudioSwing|FullSwing>, \
-        show_existing_frame: <false|true>, frame_to_show_map_idx: #, frame_type: <KeyFrame|InterFrame>, show_frame: <false|true>, \
-        error_resilient_mode: <false|true>, width: #, height: #, render_and_frame_size_different: <false|true>, render_width: #, \
-        render_height: #, intra_only: <false|true>, reset_frame_context: #, refresh_frame_flags: #, ref_frame_idx: [#, #, #], \
-        ref_frame_sign_bias: [#, #, #, #], allow_high_precision_mv: <false|true>, \
-        interpolation_filter: <EightTap|EightTapSmooth|EightTapSharp|Bilinear|Switchable>, refresh_frame_context: <false|true>, \
-        frame_parallel_decoding_mode: <false|true>, frame_context_idx: #@\
-        , lf: LoopFilterParams { level: #, sharpness: #, delta_enabled: <false|true>, delta_update: <false|true>, \
-        update_ref_delta: [<false|true>, <false|true>, <false|true>, <false|true>], ref_deltas: [#, #, #, #], \
-        update_mode_delta: [<false|true>, <false|true>], mode_deltas: [#, #] }@\
+        show_existing_frame: ?, frame_to_show_map_idx: #, frame_type: <KeyFrame|InterFrame>, show_frame: ?, \
+        error_resilient_mode: ?, width: #, height: #, render_and_frame_size_different: ?, render_width: #, \
+        render_height: #, intra_only: ?, reset_frame_context: #, refresh_frame_flags: #, ref_frame_idx: [#, #, #], \
+        ref_frame_sign_bias: [#, #, #, #], allow_high_precision_mv: ?, \
+        interpolation_filter: <EightTap|EightTapSmooth|EightTapSharp|Bilinear|Switchable>, refresh_frame_context: ?, \
+        frame_parallel_decoding_mode: ?, frame_context_idx: #@\
+        , lf: LoopFilterParams { level: #, sharpness: #, delta_enabled: ?, delta_update: ?, \
+        update_ref_delta: [?, ?, ?, ?], ref_deltas: [#, #, #, #], \
+        update_mode_delta: [?, ?], mode_deltas: [#, #] }@\
         , quant: QuantizationParams { base_q_idx: #, delta_q_y_dc: #, delta_q_uv_dc: #, delta_q_uv_ac: # }@\
-        , seg: SegmentationParams { enabled: <false|true>, update_map: <false|true>, tree_probs: [#, #, #, #, #, #, #], \
-        pred_probs: [#, #, #], temporal_update: <false|true>, update_data: <false|true>, abs_or_delta_update: <false|true>, \
-        feature_enabled: [[<false|true>, <false|true>, <false|true>, <false|true>], [<false|true>, <false|true>, <false|true>, <false|true>], \
-        [<false|true>, <false|true>, <false|true>, <false|true>], [<false|true>, <false|true>, <false|true>, <false|true>], \
-        [<false|true>, <false|true>, <false|true>, <false|true>], [<false|true>, <false|true>, <false|true>, <false|true>], \
-        [<false|true>, <false|true>, <false|true>, <false|true>], [<false|true>, <false|true>, <false|true>, <false|true>]], \
+        , seg: SegmentationParams { enabled: ?, update_map: ?, tree_probs: [#, #, #, #, #, #, #], \
+        pred_probs: [#, #, #], temporal_update: ?, update_data: ?, abs_or_delta_update: ?, \
+        feature_enabled: [[?, ?, ?, ?], [?, ?, ?, ?], \
+        [?, ?, ?, ?], [?, ?, ?, ?], \
+        [?, ?, ?, ?], [?, ?, ?, ?], \
+        [?, ?, ?, ?], [?, ?, ?, ?]], \
         feature_data: [[#, #, #, #], [#, #, #, #], [#, #, #, #], [#, #, #, #], [#, #, #, #], [#, #, #, #], [#, #, #, #], [#, #, #, #]] }@\
-        , tile_cols_log2: #, tile_rows_log2: #, lossless: <false|true>, header_size_in_bytes: #, uncompressed_header_size_in_bytes: # }\n@\
+        , tile_cols_log2: #, tile_rows_log2: #, lossless: ?, header_size_in_bytes: #, uncompressed_header_size_in_bytes: # }\n@\
         \x20 seg # Segmentation { lvl_lookup: [[#, #], [#, #], [#, #], [#, #]], luma_ac_quant_scale: #, luma_dc_quant_scale: #, \
-        chroma_ac_quant_scale: #, chroma_dc_quant_scale: #, reference_frame_enabled: <false|true>, reference_frame: #, \
-        reference_skip_enabled: <false|true> }\n@\
-        \x20 state ReaderState { bit_depth: Depth#, subsampling_x: <false|true>, subsampling_y: <false|true>, \
+        chroma_ac_quant_scale: #, chroma_dc_quant_scale: #, reference_frame_enabled: ?, reference_frame: #, \
+        reference_skip_enabled: ? }\n@\
+        \x20 state ReaderState { bit_depth: Depth#, subsampling_x: ?, subsampling_y: ?, \
         color_space: <Unknown|Bt601|Bt709|Smpte170|Smpte240|Bt2020|Reserved2|CsSrgb>, color_range: <StudioSwing|FullSwing>@\
         , reference_frame_sz: [FrameSize { width: #, height: # }, FrameSize { width: #, height: # }, FrameSize { width: #, height: # }, \
         FrameSize { width: #, height: # }, FrameSize { width: #, height: # }, FrameSize { width: #, height: # }, \
@@ -96,7 +96,7 @@ fn after(form: &[u8], mark: usize) -> usize {
 
 fn is_mark(c: u8) -> bool {
     match c {
-        b'#' | b'<' | b'|' | b'>' | b'@' => true,
+        b'#' | b'?' | b'<' | b'|' | b'>' | b'@' => true,
         _ => false,
     }
 }
@@ -180,12 +180,18 @@ fn choice(at: usize, words: u32, k: u32) -> usize {
     next
 }
 
-fn flag(at: usize, b: bool) -> usize {
+fn print_truth(b: bool) {
     if b {
-        choice(at, 2, 1)
+        io::write_all(STDOUT_FILENO, b"true");
     } else {
-        choice(at, 2, 0)
+        io::write_all(STDOUT_FILENO, b"false");
     }
+}
+
+fn flag(at: usize, b: bool) -> usize {
+    let next = text(at);
+    print_truth(b);
+    next
 }
 
 fn bytes(at: usize, s: &[u8]) -> usize {
@@ -417,15 +423,6 @@ fn print_place(chunk: u64, frame: usize, kind: u32, at: usize, size: usize) -> u
     number(next, size as u64)
 }
 
-// The place of a frame in its chunk, of so many frames.
-struct Place {
-    chunk: u64,
-    frames: usize,
-    frame: usize,
-    at: usize,
-    size: usize,
-}
-
 // A frame's line and its header.
 fn print_frame(at: usize, h: Header) -> usize {
     let at = word(at, h.width);
@@ -435,13 +432,14 @@ fn print_frame(at: usize, h: Header) -> usize {
     print_header(at, h)
 }
 
-// A frame with the segment records after it, which are handed on; a place with no frame changes nothing.
-fn list_frame(place: Place, h: Header, old: [Segmentation; 8]) -> [Segmentation; 8] {
-    if place.frame >= place.frames {
+// The i-th frame with the segment records after it, which are handed on. There are never more than eight.
+fn list_frame(chunk: u64, i: usize, read: ChunkRead, old: [Segmentation; 8]) -> [Segmentation; 8] {
+    if i >= 8 {
         return old;
     }
+    let h = read.headers[i];
     let segments = Segmentation::update_segmentation(old, h);
-    let at = print_place(place.chunk, place.frame, kind(h), place.at, place.size);
+    let at = print_place(chunk, i, kind(h), read.at[i], read.size[i]);
     print_segments(print_frame(at, h), segments);
     segments
 }
@@ -452,19 +450,9 @@ fn print_frames(
     read: ChunkRead,
     old: [Segmentation; 8],
 ) -> [Segmentation; 8] {
-    let at = read.at;
-    let size = read.size;
-    let headers = read.headers;
     let mut segments = old;
-    for i in 0..8usize {
-        let place = Place {
-            chunk,
-            frames,
-            frame: i,
-            at: at[i],
-            size: size[i],
-        };
-        let after = list_frame(place, headers[i], segments);
+    for i in 0..frames {
+        let after = list_frame(chunk, i, read, segments);
         segments = after;
     }
     segments
