@@ -471,19 +471,29 @@ def data_dropped(frame):
                for i in range(8) for j in range(4))
 
 
-def outside(chunk, state):
-    """Why the chunk lies outside the domain for runs, or None."""
-    try:
-        frames, _ = read_chunk(chunk, state)
-    except Refused as refused:
-        reasons = {1: "no bytes", 2: "index cut short", 3: "frame past the room",
-                   6: "header past its frame"}
-        return reasons.get(refused.number)
+def outside_refused(refused):
+    """Why a refused chunk lies outside the domain for runs, or None."""
+    reasons = {1: "no bytes", 2: "index cut short", 3: "frame past the room",
+               6: "header past its frame"}
+    return reasons.get(refused.number)
+
+
+def outside_frames(frames):
+    """Why an accepted chunk of these frames lies outside the domain for runs, or None."""
     if any(top_bits(frame.fields) for frame in frames):
         return "feature value with its top bit set"
     if any(data_dropped(frame) for frame in frames):
         return "feature with data switched off"
     return None
+
+
+def outside(chunk, state):
+    """Why the chunk lies outside the domain for runs, or None."""
+    try:
+        frames, _ = read_chunk(chunk, state)
+    except Refused as refused:
+        return outside_refused(refused)
+    return outside_frames(frames)
 
 
 TABLES = {"DC_QLOOKUP": ("dc", "Depth8"), "AC_QLOOKUP": ("ac", "Depth8"),

@@ -1,315 +1,357 @@
 #!/usr/bin/env python3
-"""Compares the proved header reader with the Rust, field by field.
+"""Compares the proved reader of chunks with the Rust and with a model of document 01.
 
-Usage: compare.py [--program PROGRAM] [--judge JUDGE] [--src SRC_DIR] [--tools DIR] [--show N] [--bent N]
+Usage: compare.py [--program PROGRAM] [--judge JUDGE] [--src SRC_DIR] [--tools DIR]
+                  [--bent N] [--every N] [--show N]
 
-PROGRAM is the proved program read_frames (default target/bin/read_frames, made by
-`rt check read_frames`). Every frame of every recording of tests/recordings and of
-every chunk of tests/handmade/series.hex is put to it: each header, and the segment
-records and the state after each frame.
-
-On document 01's domain for runs, the header and the segment records are compared with
-the Rust's and, after each chunk, the state with the Rust's. Outside of it, between the frames of a chunk,
-and for a refusal's number, the answer is compared with the model of document 01
-(tests/handmade/expect.py). A chunk whose split document 01 refuses has no frames.
---bent N also puts N bent copies of the series: in each chunk one to three bits of the
-first 24 bytes are turned over. The same run bends the same bits.
+PROGRAM is the proved program read_chunks (default target/bin/read_chunks, made by
+`rt check read_chunks`). README.md says what is put to it and what each answer is held to.
+--bent N adds N bent copies of the hand-made series. --every N takes only each N-th of the
+cut and bent example and real chunks and of the short chunks.
 
 Exit 0 if all agrees, 1 on a difference, 2 if something is missing."""
 
 import argparse
-import glob
+import collections
+import itertools
 import os
-import platform
-import random
-import shutil
-import struct
+import re
 import subprocess
 import sys
+import tempfile
 
 sys.dont_write_bytecode = True
 
-HERE = os.path.dirname(os.path.abspath(__file__))
-ROOT = os.path.abspath(os.path.join(HERE, "..", ".."))
-sys.path.insert(0, os.path.join(HERE, "..", "handmade"))
+import inputs
+import program
+from inputs import ROOT
+
+sys.path.insert(0, os.path.join(ROOT, "tests", "handmade"))
 
 import expect
-from check import field_differences, plain_state, read_answers
-
-LONGEST = 65536
+from check import Answer, field_differences, plain_state
 
 
-# The inputs: lists of chunks, each list from a fresh state.
+# What document 01 says, as the program prints it, but for the chunk's number.
 
-def ivf_chunks(path):
-    with open(path, "rb") as file:
-        data = file.read()
-    at, chunks = int.from_bytes(data[6:8], "little"), []
-    while at < len(data):
-        size = int.from_bytes(data[at:at + 4], "little")
-        chunks.append(data[at + 12:at + 12 + size])
-        at += 12 + size
-    return chunks
+def state_line(text):
+    return "  state " + text.replace("Parser {", "ReaderState {", 1)
 
 
-def hex_series(path):
-    """The series of a hex file in the judge's form."""
-    all_series = []
-    with open(path) as file:
-        for line in file:
-            line = line.strip()
-            if line == "fresh":
-                all_series.append([])
-            elif not line.startswith("#"):
-                all_series[-1].append(bytes.fromhex(line))
-    return all_series
-
-
-def bent(chunk, dice):
-    """The chunk with one to three of its first bits turned over."""
-    data = bytearray(chunk)
-    for _ in range(dice.randint(1, 3) if data else 0):
-        place = dice.randrange(min(len(data), 24) * 8)
-        data[place // 8] ^= 128 >> place % 8
-    return bytes(data)
-
-
-def bent_series(all_series, copies):
-    dice = random.Random(9)
-    return [[bent(chunk, dice) for chunk in chunks] for _ in range(copies) for chunks in all_series]
-
-
-def hex_text(all_series):
-    return "".join("fresh\n" + "".join(chunk.hex() + "\n" for chunk in chunks)
-                   for chunks in all_series)
-
-
-# What the program is to answer.
-
-class Question:
-    """A frame put to the program, and the lines that it must answer, None if they
-    aren't compared. `judged`: 1 if all but the state are the Rust's, 2 if the state is too."""
-
-    def __init__(self, where, data, lines, judged=0):
-        self.where, self.data, self.lines, self.judged = where, data, lines, judged
+def segment_lines(segments):
+    return [f"  seg {i} {expect.debug(record)}" for i, record in enumerate(segments)]
 
 
 class Memory:
-    """What the model remembers between frames."""
+    """What is remembered from chunk to chunk, with its lines."""
 
     def __init__(self, state, segments):
         self.state, self.segments = state, segments
+        self.state_line = state_line(state.debug())
+        self.segment_lines = segment_lines(segments)
 
-    @classmethod
-    def fresh(cls):
-        return cls(expect.State(), expect.default_segments())
-
-    def after(self, record, tables):
-        return Memory(expect.remember(self.state, record),
-                      expect.segment_step(self.segments, record, tables))
-
-    def segment_lines(self):
-        return [f"seg {i} {expect.debug(record)}" for i, record in enumerate(self.segments)]
+    def lines(self):
+        return self.state_line, self.segment_lines
 
 
-def judge_segments(frame):
-    """The segment lines of a frame of the judge."""
-    return [line.strip() for line in frame[2:]]
+def kind(header):
+    if header.show_existing_frame:
+        return "show"
+    if header.frame_type == "KeyFrame":
+        return "key"
+    return "intra" if header.intra_only else "inter"
 
 
-def state_line(text):
-    return "state " + text.replace("Parser {", "ReaderState {", 1)
+class Question:
+    """A chunk put to the program, with the model's answer. `again`: put before, and now only
+    to reach a state."""
+
+    def __init__(self, group, where, chunk, before, tables):
+        self.group, self.where, self.chunk, self.before = group, where, chunk, before
+        self.fresh = self.again = False
+        self.frames = self.refusal = 0
+        try:
+            frames, state = expect.read_chunk(chunk, before.state)
+        except expect.Refused as refused:
+            self.refusal, self.after = refused.number, before
+            self.outside = expect.outside_refused(refused)
+            self.lines = [str(refused), before.state_line]
+            return
+        self.frames, self.outside = len(frames), expect.outside_frames(frames)
+        self.accept(frames, state, tables)
+
+    def accept(self, frames, state, tables):
+        self.lines, segments = [], self.before.segments
+        for i, frame in enumerate(frames):
+            h, segments = frame.record, expect.segment_step(segments, frame.record, tables)
+            self.lines.append(f"{i} {kind(h)} {frame.at} {frame.size} {h.width} {h.height} "
+                              f"{h.refresh_frame_flags} {h.uncompressed_header_size_in_bytes}")
+            self.lines.append("  " + expect.debug(h))
+            self.lines += segment_lines(segments)
+        self.after = Memory(state, segments)
+        self.lines.append(self.after.state_line)
+
+    def repeated(self):
+        copy = Question.__new__(Question)
+        copy.__dict__.update(self.__dict__, again=True)
+        return copy
 
 
 class Plan:
-    """What is put to the program, in order: its input, and the questions."""
+    """All questions in the order in which they are put."""
 
     def __init__(self, tables):
-        self.tables, self.input, self.questions = tables, [], []
-        self.series = self.chunks = self.split_refused = self.too_long = 0
-        self.judged_chunks = self.model_chunks = self.refused_chunks = 0
+        self.tables, self.questions = tables, []
+        self.nothing = Memory(expect.State(), expect.default_segments())
 
-    def fresh(self):
-        self.input.append(b"\0")
-
-    def ask(self, question):
-        self.input.append(b"\1" + struct.pack("<I", len(question.data)) + question.data)
+    def ask(self, group, where, chunk, before):
+        question = Question(group, where, chunk, before, self.tables)
         self.questions.append(question)
+        return question
 
-    def add_series(self, name, chunks, answers):
-        """One series with the judge's answers to it."""
-        self.series += 1
-        self.fresh()
-        memory, history = Memory.fresh(), []
-        judge_state, judge_lines = memory.state.debug(), memory.segment_lines()
-        for number, (chunk, answer) in enumerate(zip(chunks, answers, strict=True)):
-            self.chunks += 1
-            where = f"{name} chunk {number}"
-            same_before = (judge_state, judge_lines) == (memory.state.debug(), memory.segment_lines())
-            outside = expect.outside(chunk, memory.state)
-            judge_state = plain_state(answer.state)
-            if answer.accepted:
-                judge_lines = judge_segments(answer.frames[-1])
-            memory = self.add_chunk(where, chunk, memory, history,
-                                    None if outside or not same_before else answer)
-
-    def add_chunk(self, where, chunk, memory, history, answer):
-        """Puts a chunk's frames; `answer` is the judge's, on the domain."""
-        try:
-            places = expect.split(chunk)
-        except expect.Refused:
-            self.split_refused += 1
-            return memory
-        if any(size > LONGEST for _, size in places):
-            self.too_long += 1
-        self.judged_chunks += answer is not None
-        self.model_chunks += answer is None
-        now, asked = memory, []
-        for i, (at, size) in enumerate(places):
-            data = chunk[at:at + size]
-            try:
-                fields, bits = expect.read_fields(data, now.state.slots, i)
-            except expect.Refused as refused:
-                return self.refuse(f"{where} frame {i}", data, refused, memory, history, asked, answer)
-            record = expect.header(fields, now.state, bits)
-            now = now.after(record, self.tables)
-            header, segments, after, judged = expect.debug(record), now.segment_lines(), now.state.debug(), 0
-            if answer is not None and answer.accepted:
-                header, segments, judged = answer.frames[i][1].strip(), judge_segments(answer.frames[i]), 1
-                if i == len(places) - 1:
-                    after, judged = plain_state(answer.state), 2
-            self.ask(Question(f"{where} frame {i}", data, [header, *segments, state_line(after)], judged))
-            asked.append(data)
-        if answer is not None and not (answer.accepted and len(answer.frames) == len(places)):
-            sys.exit(f"{where}: the judge says {answer.head}, the model accepts")
-        history.extend(asked)
-        return now
-
-    def refuse(self, where, data, refused, memory, history, asked, answer):
-        """A refused frame; what was remembered before the chunk is reached again."""
-        self.refused_chunks += 1
-        if answer is not None and answer.accepted:
-            sys.exit(f"{where}: the judge accepts, the model says {refused}")
-        self.ask(Question(where, data, [f"refused {refused.number}"]))
+    def series(self, group, name, chunks):
+        """Chunks in a row from a fresh state. Answers the questions."""
+        memory, asked = self.nothing, []
+        for number, chunk in enumerate(chunks):
+            asked.append(self.ask(group, f"{name} chunk {number}", chunk, memory))
+            memory = asked[-1].after
         if asked:
-            self.fresh()
-            for earlier in history:
-                self.ask(Question(f"{where}, replay", earlier, None))
-        return memory
+            asked[0].fresh = True
+        return asked
+
+    def variants(self, group, name, before, chunks):
+        """Each of the chunks in the state that the chunks `before` leave. A refused one leaves
+        it, so it is reached anew only after an accepted one."""
+        path, memory = [], self.nothing
+        for chunk in before:
+            path.append(Question(group, name, chunk, memory, self.tables))
+            memory = path[-1].after
+        moved = True
+        for what, chunk in chunks:
+            if moved:
+                self.questions += [question.repeated() for question in path]
+            question = self.ask(group, f"{name} {what}", chunk, memory)
+            if moved:
+                self.questions[-1 - len(path)].fresh = True
+            moved = not question.refusal
 
 
-# Running the program.
+def make_plan(tables, given):
+    plan = Plan(tables)
+    for name, chunks in inputs.recordings():
+        plan.series("recordings", name, chunks)
+    hand_made = inputs.hand_made()
+    for number, chunks in enumerate(hand_made):
+        plan.series("hand-made", f"series {number}", chunks)
+    for number, chunks in enumerate(inputs.bent_series(hand_made, given.bent)):
+        plan.series("hand-made, bent", f"bent series {number}", chunks)
+    for group, chosen in (("examples", inputs.EXAMPLES), ("real", inputs.real_chunks())):
+        for name, before, chunk in chosen:
+            put = [("", chunk), *inputs.cuts(chunk), *inputs.flips(chunk, places(chunk))]
+            plan.variants(f"{group}, cut and bent", name, before, put[::given.every])
+    plan.variants("one and two bytes", "chunk", [],
+                  itertools.islice(inputs.short_chunks(), 0, None, given.every))
+    return plan
 
-def kit_tools():
-    """The folder of the kit's loader and emulator, found as `rt` finds it."""
-    rt = shutil.which("rt") or "/opt/rattle/bin/rt"
-    home = os.environ.get("RATTLE_HOME") or os.path.dirname(os.path.dirname(os.path.realpath(rt)))
-    return os.path.join(home, "on", platform.machine(), "toolchain")
+
+def places(chunk):
+    try:
+        return expect.split(chunk)
+    except expect.Refused:
+        return []
 
 
-def command(program, tools):
-    """As `rt` runs a program: under the kit's loader, and its emulator where there is one."""
-    emulator = os.path.join(tools, "bin", "qemu-x86_64")
-    loader = os.path.join(tools, "lib", "ld-linux-x86-64.so.2")
-    return ([emulator] if os.access(emulator, os.X_OK) else []) + [
-        loader, "--library-path", os.path.join(tools, "lib"), program]
+# What the program and the Rust answer.
+
+def write_inputs(plan, for_program, for_judge):
+    for question in plan.questions:
+        if question.fresh:
+            for_program.write(program.FRESH)
+            for_judge.write(b"fresh\n")
+        for_program.write(program.record(question.chunk))
+        for_judge.write(question.chunk.hex().encode() + b"\n")
+    for file in (for_program, for_judge):
+        file.seek(0)
 
 
-def group(lines):
-    """The program's lines, by frame."""
-    frames = []
+def program_answers(lines):
+    """The program's lines, by chunk: each chunk's end with the state."""
+    block = []
     for line in lines:
-        if line.startswith(("state ", "seg ")):
-            frames[-1].append(line)
-        else:
-            frames.append([line])
-    return frames
+        block.append(line.rstrip("\n"))
+        if line.startswith("  state "):
+            yield block
+            block = []
+    if block:
+        yield block
 
 
-def run_judge(judge, *arguments, given=None):
-    return subprocess.run([judge, *arguments], input=given, stdout=subprocess.PIPE, text=True,
-                          stderr=subprocess.DEVNULL, check=True).stdout
+def judge_answers(lines):
+    """The judge's answers, chunk by chunk."""
+    answer = None
+    for line in lines:
+        line = line.rstrip("\n")
+        if line.startswith("chunk "):
+            answer = Answer(line)
+        elif line.startswith("frame "):
+            answer.frames.append([line])
+        elif line.startswith("  "):
+            answer.frames[-1].append(line)
+        elif line.startswith("state "):
+            answer.state = state_line(plain_state(line[len("state "):]))
+            yield answer
 
 
-def judge_recording(judge, path):
-    return read_answers("fresh\n" + run_judge(judge, "--ivf", path))[0]
+HEADER = re.compile(r"show_existing_frame: (\w+), .*frame_type: (\w+), .* width: (\d+), height: (\d+), .*"
+                    r"intra_only: (\w+), .*refresh_frame_flags: (\d+), .*"
+                    r"uncompressed_header_size_in_bytes: (\d+) }")
 
 
-def differences(question, got):
-    if len(got) != len(question.lines) or got[0].startswith("refused") \
-            or question.lines[0].startswith("refused"):
-        return [f"program: {got[0][:60]}; wanted: {question.lines[0][:60]}"] \
-            if got != question.lines else []
+def rust_frame(frame):
+    """The lines of a frame of the judge as the program prints them."""
+    shown, frame_type, width, height, intra, refresh, length = HEADER.search(frame[1]).groups()
+    if shown == "true":
+        name = "show"
+    elif frame_type == "KeyFrame":
+        name = "key"
+    else:
+        name = "intra" if intra == "true" else "inter"
+    _, number, at, size = frame[0].split()
+    return [f"{number} {name} {at} {size} {width} {height} {refresh} {length}", *frame[1:]]
+
+
+def rust_lines(question, answer):
+    """The lines that the Rust asks for. It has no refusal numbers; those are the model's."""
+    if question.refusal:
+        return [question.lines[0], answer.state]
+    lines = [line for frame in answer.frames for line in rust_frame(frame)]
+    return lines + [answer.state]
+
+
+# The comparison.
+
+class Counts:
+    def __init__(self):
+        self.chunks = self.frames = self.rust = self.model_only = self.wrong = 0
+        self.refused = collections.Counter()
+
+    def add(self, question, judged):
+        self.chunks += 1
+        self.frames += question.frames
+        self.rust += judged
+        self.model_only += not judged
+        if question.refusal:
+            self.refused[question.refusal] += 1
+
+    def text(self):
+        refused = ", ".join(f"{n} of {number}" for number, n in sorted(self.refused.items())) or "none"
+        return (f"{self.chunks} chunks, {self.frames} frames; {self.rust} with the Rust and the model, "
+                f"{self.model_only} with the model only; refused: {refused}; {self.wrong} differ")
+
+
+def differences(got, wanted, who):
+    """In which lines and fields the program's answer isn't the wanted one."""
+    if [line.split()[0] for line in got] != [line.split()[0] for line in wanted] \
+            or "refused" in got[0] or "refused" in wanted[0]:
+        return [f"program: {got[0][:70]} .. ({len(got)} lines); {who}: {wanted[0][:70]} .. ({len(wanted)} lines)"]
     found = []
-    for mine, wanted in zip(got, question.lines):
-        if mine != wanted:
-            found += [d.replace("document 01:", "wanted:") for d in field_differences(mine, wanted)] \
-                or [f"program: {mine}", f"wanted: {wanted}"]
+    for mine, other in zip(got, wanted):
+        if mine != other:
+            found += [d.replace("document 01:", f"{who}:") for d in field_differences(mine, other)] \
+                or [f"program: {mine}", f"{who}: {other}"]
     return found
 
 
-def make_plan(judge, tables, copies):
-    plan = Plan(tables)
-    recordings = sorted(glob.glob(os.path.join(ROOT, "tests", "recordings", "*.ivf")))
-    for path in recordings:
-        plan.add_series(os.path.basename(path), ivf_chunks(path), judge_recording(judge, path))
-    all_series = hex_series(os.path.join(ROOT, "tests", "handmade", "series.hex"))
-    all_series += bent_series(all_series, copies)
-    answers = read_answers(run_judge(judge, "--hex", given=hex_text(all_series)))
-    for number, (chunks, answer) in enumerate(zip(all_series, answers, strict=True)):
-        plan.add_series(f"series {number}", chunks, answer)
-    return plan, len(recordings)
+class Comparison:
+    def __init__(self, show):
+        self.show, self.counts = show, {}
+        self.rust_before = None
+        self.number = 0
+
+    def compare(self, question, got, answer):
+        if question.fresh:
+            self.number, self.rust_before = 0, None
+        judged = not question.outside and (self.rust_before or question.before.lines()) == question.before.lines()
+        found = self.found(question, got, answer, judged)
+        self.remember(question, answer)
+        self.number += 1
+        counts = self.counts.setdefault(question.group, Counts())
+        if not question.again:
+            counts.add(question, judged)
+        if found:
+            counts.wrong += 1
+            self.report(question, found)
+
+    def found(self, question, got, answer, judged):
+        wanted = self.numbered(question.lines)
+        found = differences(got, wanted, "document 01") if got != wanted else []
+        if not judged:
+            return found
+        if answer.accepted == bool(question.refusal):
+            return found + [f"the Rust: {answer.head}; document 01: {question.lines[0]}"]
+        wanted = self.numbered(rust_lines(question, answer))
+        return found + (differences(got, wanted, "the Rust") if got != wanted else [])
+
+    def numbered(self, lines):
+        return [line if line.startswith("  ") else f"{self.number} {line}" for line in lines]
+
+    def remember(self, question, answer):
+        """The Rust's state and segment records after this chunk."""
+        state, segments = self.rust_before or question.before.lines()
+        if answer.accepted:
+            segments = answer.frames[-1][2:]
+        self.rust_before = answer.state, segments
+
+    def report(self, question, found):
+        if self.show > 0:
+            self.show -= 1
+            print(f"WRONG: {question.group}: {question.where}: bytes {question.chunk[:64].hex().upper()}")
+            for line in found[:10]:
+                print(f"  {line}")
 
 
-def print_counts(plan, recordings, wrong):
-    asked = [q for q in plan.questions if q.lines is not None]
-    refused = sum(len(q.lines) == 1 for q in asked)
-    accepted = len(asked) - refused
-    headers, states = sum(q.judged > 0 for q in asked), sum(q.judged > 1 for q in asked)
-    print(f"{recordings} recordings, {plan.series - recordings} series, {plan.chunks} chunks: "
-          f"{plan.judged_chunks} on the domain, {plan.model_chunks} outside, "
-          f"{plan.split_refused} skipped (their split is refused), {plan.too_long} too long")
-    print(f"{len(asked)} frames compared, {len(plan.questions) - len(asked)} put again to reach a state")
-    print(f"accepted {accepted}: {headers} headers and segment records with the Rust, {accepted - headers} with the model; "
-          f"{states} states with the Rust, {accepted - states} with the model")
-    print(f"refused {refused}: numbers with the model")
-    print(f"{wrong} differences")
+def run_judge(judge, given, output):
+    subprocess.run([judge, "--hex"], stdin=given, stdout=output, stderr=subprocess.DEVNULL, check=True)
+
+
+def compare_all(plan, given):
+    comparison = Comparison(given.show)
+    with tempfile.TemporaryFile() as for_program, tempfile.TemporaryFile() as for_judge, \
+            tempfile.TemporaryFile("w+") as from_program, tempfile.TemporaryFile("w+") as from_judge:
+        write_inputs(plan, for_program, for_judge)
+        program.run(given.program, given.tools, for_program, from_program)
+        run_judge(given.judge, for_judge, from_judge)
+        from_program.seek(0)
+        from_judge.seek(0)
+        answers = zip(program_answers(from_program), judge_answers(from_judge), strict=True)
+        for question, (got, answer) in zip(plan.questions, answers, strict=True):
+            comparison.compare(question, got, answer)
+    return comparison
 
 
 def main():
-    options = argparse.ArgumentParser(description="compare the proved reader with the Rust")
-    options.add_argument("--program", default=os.path.join(ROOT, "target", "bin", "read_frames"))
+    options = argparse.ArgumentParser(description="compare the proved reader with the Rust and the model")
+    options.add_argument("--program", default=program.PROGRAM)
     options.add_argument("--judge", default=os.path.join(ROOT, "target", "judge", "judge"))
     options.add_argument("--src", default=os.path.join(ROOT, "..", "shared", "docs", "src"),
                          help="the folder of the crate's sources")
-    options.add_argument("--tools", default=kit_tools(),
+    options.add_argument("--tools", default=program.kit_tools(),
                          help="the kit's folder with bin/ and lib/ for programs")
-    options.add_argument("--show", type=int, default=20, help="how many differences to print")
     options.add_argument("--bent", type=int, default=0, help="how many bent copies of the series")
+    options.add_argument("--every", type=int, default=1, help="take each N-th variant and short chunk")
+    options.add_argument("--show", type=int, default=20, help="how many differences to print")
     given = options.parse_args()
     for needed in (given.program, given.judge, given.src, given.tools):
         if not os.path.exists(needed):
             print(f"compare: no {needed}", file=sys.stderr)
             sys.exit(2)
-    plan, recordings = make_plan(given.judge, expect.read_tables(given.src), given.bent)
-    output = subprocess.run(command(given.program, given.tools), input=b"".join(plan.input),
-                            stdout=subprocess.PIPE, check=True).stdout.decode()
-    answers = group(output.splitlines())
-    wrong = shown = 0
-    if len(answers) != len(plan.questions):
-        wrong += 1
-        print(f"WRONG: {len(plan.questions)} frames put, {len(answers)} answered")
-    for question, got in zip(plan.questions, answers):
-        found = differences(question, got) if question.lines is not None else []
-        if not found:
-            continue
-        wrong += 1
-        if shown < given.show:
-            shown += 1
-            print(f"WRONG: {question.where}: bytes {question.data[:64].hex().upper()}")
-            for line in found[:10]:
-                print(f"  {line}")
-    print_counts(plan, recordings, wrong)
+    plan = make_plan(expect.read_tables(given.src), given)
+    comparison = compare_all(plan, given)
+    for group, counts in comparison.counts.items():
+        print(f"{group}: {counts.text()}")
+    again = sum(question.again for question in plan.questions)
+    wrong = sum(counts.wrong for counts in comparison.counts.values())
+    print(f"{len(plan.questions) - again} chunks compared, {again} put again to reach a state, {wrong} differences")
     sys.exit(1 if wrong else 0)
 
 

@@ -1,4 +1,4 @@
--- `read_frames::put::signed_short` is safe: a negative number's opposite fits 64 bits, and a number that is not negative is a u64.
+-- `read_chunks::print_signed` is safe: a negative number's opposite fits 64 bits, and a number that is not negative is a u64.
 use mathlib.Core.Path.{_≡_}
 use mathlib.Core.Bool.{true, false}
 use Prim.Native.Nat.{ℕ}
@@ -10,8 +10,8 @@ use lib.Signed.{ltZ, nonNeg}
 use mir.Syntax.{w16, w64}
 use mir.Val.{Fits, SFits}
 use mir.Facts.{toZ-ofZ, sfits-widen}
-use Rattle.read_frames.proofs.put.signed_short.Statement.{statement}
-use Rattle.read_frames.proofs.put.signed_short.Tie as tie
+use Rattle.read_chunks.proofs.print_signed.Statement.{statement}
+use Rattle.read_chunks.proofs.print_signed.Tie as tie
 
 natural : (z : ℤ) → SFits w16 z → ltZ z (pos 0) ≡ false → T (nonNeg z) × Fits w64 (natAbs z)
 natural (pos n) f e = (tt, record { fits = omega arith })
@@ -21,11 +21,11 @@ below : (z : ℤ) → SFits w16 z → ltZ z (pos 0) ≡ true → SFits w64 (pos 
 below (pos n) f e = absurd (omega (arith, ltb→lt n 0 (rw e tt)))
 below (negsuc n) f e = (record { sfits = omega (arith, f .sfits) }, (tt, record { fits = omega (arith, f .sfits) }))
 
-slice-aggregate-text : tie.Need-slice-aggregate-text
-slice-aggregate-text c = search needs
+slice-aggregate-write-all : tie.Need-slice-aggregate-write-all
+slice-aggregate-write-all c = search needs
 
-text-requires : tie.Need-text-requires
-text-requires c κs = search needs
+write-all-requires : tie.Need-write-all-requires
+write-all-requires c κs = search needs
 
 cast-print-decimal : tie.Need-cast-print-decimal
 cast-print-decimal c = let f = c .before .before .before .fits .n in rw (toZ-ofZ f) (sfits-widen tt f)
@@ -63,12 +63,12 @@ returns c = search needs
 returns-2 : tie.Need-returns-2
 returns-2 c = search needs
 
-pub signed-short-spec : {M : Type 1} → statement M
-signed-short-spec =
+pub print-signed-spec : {M : Type 1} → statement M
+print-signed-spec =
     tie.close
     (tie.spec
-    slice-aggregate-text
-    text-requires
+    slice-aggregate-write-all
+    write-all-requires
     cast-print-decimal
     sub-print-decimal
     cast-print-decimal-2

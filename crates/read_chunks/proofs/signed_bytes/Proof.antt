@@ -1,28 +1,19 @@
--- `read_frames::put::signed_bytes` is safe and ends: the index runs from 0 to the length.
+-- `read_chunks::signed_bytes` is safe and ends: the index runs from 0 to the length.
 use mathlib.Core.Path.{_≡_}
-use Prim.Native.Nat.{_≤_, _-_}
+use Prim.Native.Nat.{_-_}
 use lib.ListN.{length}
 use borrow.Author.Needs.{needs}
-use Rattle.read_frames.proofs.put.signed_bytes.Statement.{statement}
-use Rattle.read_frames.proofs.put.signed_bytes.Tie as tie
+use Rattle.read_chunks.proofs.signed_bytes.Statement.{statement}
+use Rattle.read_chunks.proofs.signed_bytes.Tie as tie
 
 abbrev Inv-loop : tie.InvT-loop
-Inv-loop s i₀ t4 i-end i = (i ≤ i-end) × (i-end ≡ length s)
+Inv-loop at s next₀ i₀ i-end next i = i-end ≡ length s
 
 abbrev μ-loop : tie.MeasureT-loop
-μ-loop s i₀ t4 i-end i = i-end - i
-
-slice-aggregate-text : tie.Need-slice-aggregate-text Inv-loop μ-loop
-slice-aggregate-text c = search needs
-
-text-requires : tie.Need-text-requires Inv-loop μ-loop
-text-requires c κs = search needs
+μ-loop at s next₀ i₀ i-end next i = i-end - i
 
 loop-holds : tie.Need-loop-holds Inv-loop μ-loop
 loop-holds c = search needs
-
-comma-requires : tie.Need-comma-requires Inv-loop μ-loop
-comma-requires c κs = search needs
 
 shared-slice-copy-out-signed-byte : tie.Need-shared-slice-copy-out-signed-byte Inv-loop μ-loop
 shared-slice-copy-out-signed-byte c = search needs
@@ -39,12 +30,6 @@ loop-less c = search needs
 loop-again : tie.Need-loop-again Inv-loop μ-loop
 loop-again c = search needs
 
-slice-aggregate-text-2 : tie.Need-slice-aggregate-text-2 Inv-loop μ-loop
-slice-aggregate-text-2 c = search needs
-
-text-requires-2 : tie.Need-text-requires-2 Inv-loop μ-loop
-text-requires-2 c κs = search needs
-
 returns : tie.Need-returns Inv-loop μ-loop
 returns c = search needs
 
@@ -54,15 +39,10 @@ signed-bytes-spec =
     (tie.spec
     Inv-loop
     μ-loop
-    slice-aggregate-text
-    text-requires
     loop-holds
-    comma-requires
     shared-slice-copy-out-signed-byte
     signed-byte-requires
     add-i
     loop-less
     loop-again
-    slice-aggregate-text-2
-    text-requires-2
     returns)

@@ -1,0 +1,36 @@
+"""Runs the proved program, as `rt` does."""
+
+import os
+import platform
+import shutil
+import struct
+import subprocess
+
+ROOT = os.path.abspath(os.path.join(os.path.dirname(os.path.abspath(__file__)), "..", ".."))
+PROGRAM = os.path.join(ROOT, "target", "bin", "read_chunks")
+# A longer chunk ends the program.
+LONGEST = 65536
+FRESH = b"\0"
+
+
+def record(chunk):
+    """A chunk as the program reads it."""
+    if len(chunk) > LONGEST:
+        raise ValueError(f"a chunk of {len(chunk)} bytes: the program ends at one over {LONGEST}")
+    return b"\1" + struct.pack("<I", len(chunk)) + chunk
+
+
+def kit_tools():
+    """The folder of the kit's loader and emulator, found as `rt` finds it."""
+    rt = shutil.which("rt") or "/opt/rattle/bin/rt"
+    home = os.environ.get("RATTLE_HOME") or os.path.dirname(os.path.dirname(os.path.realpath(rt)))
+    return os.path.join(home, "on", platform.machine(), "toolchain")
+
+
+def run(program, tools, given, output):
+    """Runs it under the kit's loader, and its emulator where there is one, from file to file."""
+    emulator = os.path.join(tools, "bin", "qemu-x86_64")
+    loader = os.path.join(tools, "lib", "ld-linux-x86-64.so.2")
+    subprocess.run(([emulator] if os.access(emulator, os.X_OK) else [])
+                   + [loader, "--library-path", os.path.join(tools, "lib"), program],
+                   stdin=given, stdout=output, check=True)
