@@ -1,12 +1,9 @@
 -- What the code answers part by part.
 -- Assumes nothing.
-use Prim.Native.Nat.{ℕ, _+_, _-_, _<_, _≤_}
+use Prim.Native.Nat.{ℕ}
 use mathlib.Core.Path.{_≡_, sym, ap, _∙_}
 use mathlib.Core.Bool.{Bool, true, false}
 use mathlib.Core.List.{List}
-use native.Mathlib.Omega.{arith}
-use lib.ListN.{length, take, drop}
-use borrow.Author.Tests.{le-leb, lt-leb}
 use Rattle.bits.specs.declared.Cursor.{Cursor}
 use Rattle.bits.specs.declared.Next.the-variants.{At, Refused as Stop}
 use Rattle.bits.specs.declared.Refusal.{Refusal}
@@ -37,8 +34,6 @@ use Rattle.header.specs.Header.{showsExisting, profileOf}
 use Rattle.header.specs.Record.{rememberedColor, independent, shownHeader, frameHeader}
 use Rattle.header.specs.State.{frameState}
 use Rattle.header.specs.Answer.{accepted, refusedWith, outcome, parsed}
-use Rattle.header.specs.declared.FrameRead.{FrameRead}
-use Rattle.header.specs.Place.{outsideFrame, insideFrame, framePlaced}
 use Rattle.header.specs.Parts.{cutLength, widthOf, finished, settled, framed}
 use Rattle.header.proofs.Outcomes.{came, came-not}
 
@@ -90,20 +85,3 @@ module _ (s : List ℕ) (st : ReaderState) (x : Cursor) (ex : x ≡ record { at 
   opened-frame o c y t b ey = came st openingOf (readOpening s 0) _ o (c .at) y (rw t at e) λ a ea.
       let f : showsExisting a ≡ false = sym (ap (λ (x : Opening). x .«show_existing_frame») ea) ∙ b in
       rw f (ey ∙ rw ea)
-
--- a frame that lies outside its chunk, by its offset or by its size, and one that lies inside
-module _ (chunk : List ℕ) (offset size : ℕ) (st : ReaderState) where
-  pub placed-far : (y : FrameRead) → length chunk < offset → y ≡ outsideFrame st → y ≡ framePlaced chunk offset size st
-  unfolding framePlaced
-  placed-far y h e = simp (lt-leb offset (length chunk) h) e
-
-  pub placed-long : (y : FrameRead) → offset ≤ length chunk → length chunk - offset < size → y ≡ outsideFrame st → y ≡ framePlaced chunk offset size st
-  unfolding framePlaced
-  placed-long y l h e = simp (le-leb offset (length chunk) l, lt-leb size (length chunk - offset) h) e
-
-  pub placed-in : (r : HeaderRead) → offset ≤ length chunk → size ≤ length chunk - offset → r ≡ parsed (take (offset + size - offset) (drop offset chunk)) st
-      → insideFrame r ≡ framePlaced chunk offset size st
-  unfolding framePlaced
-  placed-in r l h er =
-      let n : offset + size - offset ≡ size = omega arith in
-      simp (le-leb offset (length chunk) l, le-leb size (length chunk - offset) h) (rw (er, n))

@@ -5,4 +5,3 @@ pub mod Record
 pub mod State
 pub mod Answer
 pub mod Parts
-pub mod Place

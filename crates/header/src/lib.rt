@@ -3,7 +3,6 @@ ghost use mathlib.Core.Path.{_≡_};
 ghost use Rattle.header.specs.Record.{rememberedColor, independent, shownHeader, frameTypeOf, signBiases, frameHeader};
 ghost use Rattle.header.specs.State.{rangeAfter, frameState};
 ghost use Rattle.header.specs.Answer.{verdictNumber, refusedWith, parsed};
-ghost use Rattle.header.specs.Place.{placeNumber, outsideFrame, framePlaced};
 ghost use Rattle.header.specs.Parts.{cutLength, finished, settled, framed};
 use bits::Cursor;
 use bits::Next;
@@ -313,62 +312,5 @@ pub fn parse_frame_header(s: &[u8], st: ReaderState) -> HeaderRead
                 read_frame(s, c, o.profile, st)
             }
         }
-    }
-}
-
-// Whether a frame lies in its chunk, and if so what its header says.
-pub enum Place {
-    Outside,
-    Inside(Verdict),
-}
-
-impl Place {
-    // Document 01's number, and 0 for what is accepted.
-    pub fn number(self) -> u8
-        ensures { λ r. ⌜ r ≡ placeNumber self ⌝ }
-    {
-        match self {
-            Place::Outside => 3,
-            Place::Inside(v) => v.number(),
-        }
-    }
-}
-
-// On a refusal the header is the default one and the state the one before.
-pub struct FrameRead {
-    pub place: Place,
-    pub header: Header,
-    pub state: ReaderState,
-}
-
-fn outside(st: ReaderState) -> FrameRead
-    ensures { λ r. ⌜ r ≡ outsideFrame st ⌝ }
-{
-    FrameRead {
-        place: Place::Outside,
-        header: Header::default(),
-        state: st,
-    }
-}
-
-// The frame of a chunk at an offset, of a size.
-pub fn parse_frame(chunk: &[u8], offset: usize, size: usize, st: ReaderState) -> FrameRead
-    ensures { λ r. ⌜ r ≡ framePlaced (now (chunk .entry)) offset size st ⌝ }
-{
-    if offset > chunk.len() {
-        return outside(st);
-    }
-    if size > chunk.len() - offset {
-        return outside(st);
-    }
-    let end = offset + size;
-    let read = parse_frame_header(&chunk[offset..end], st);
-    let verdict = read.verdict;
-    let header = read.header;
-    let state = read.state;
-    FrameRead {
-        place: Place::Inside(verdict),
-        header,
-        state,
     }
 }

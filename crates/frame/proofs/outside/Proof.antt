@@ -1,6 +1,6 @@
 use borrow.Author.Needs.{needs}
-use Rattle.header.proofs.outside.Statement.{statement}
-use Rattle.header.proofs.outside.Tie as tie
+use Rattle.frame.proofs.outside.Statement.{statement}
+use Rattle.frame.proofs.outside.Tie as tie
 
 default-requires : tie.Need-default-requires
 default-requires c κs = search needs

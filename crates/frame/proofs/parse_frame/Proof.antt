@@ -1,8 +1,8 @@
 use native.Mathlib.Omega.{arith}
-use Rattle.header.proofs.Parts.{placed-far, placed-long, placed-in}
+use Rattle.frame.proofs.Steps.{placed-far, placed-long, placed-in}
 use borrow.Author.Needs.{needs}
-use Rattle.header.proofs.parse_frame.Statement.{statement}
-use Rattle.header.proofs.parse_frame.Tie as tie
+use Rattle.frame.proofs.parse_frame.Statement.{statement}
+use Rattle.frame.proofs.parse_frame.Tie as tie
 
 outside-requires : tie.Need-outside-requires
 outside-requires c κs = search needs

@@ -8,11 +8,11 @@ use lib.ListN.{length, take, drop}
 use Rattle.bits.specs.Reader.{pick}
 use Rattle.types.specs.Header.{defaultHeader}
 use Rattle.types.specs.declared.state.ReaderState.{ReaderState}
 use Rattle.header.specs.Answer.{verdictNumber, parsed}
 use Rattle.header.specs.declared.HeaderRead.{HeaderRead}
-use Rattle.header.specs.declared.FrameRead.{FrameRead}
-use Rattle.header.specs.declared.Place.{Place}
-use Rattle.header.specs.declared.Place.the-variants.{Outside, Inside}
+use Rattle.frame.specs.declared.FrameRead.{FrameRead}
+use Rattle.frame.specs.declared.Place.{Place}
+use Rattle.frame.specs.declared.Place.the-variants.{Outside, Inside}
 
 abbrev pub placeNumber : Place → ℕ
 placeNumber Outside = 3
