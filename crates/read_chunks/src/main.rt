@@ -19,8 +19,12 @@ use types::QuantizationParams;
 use types::ReaderState;
 use types::SegmentationParams;
 
-// Everything is printed by its form: the text, with marks in it. # stands for a number, ? for true or false, <a|b> for one of some words, @ ends a form. Each value
-// takes the place up to which the forms are printed, prints the text before its mark and itself, and answers the place after its mark.
+// Everything is printed by its form: the text, with marks in it. # stands for a number, ? for true or false, <a|b> for one of some words, and
+// @ ends a form. Each value takes the place up to which its form is printed, prints the text before its mark and itself, and answers the place
+// after its mark. One text holds all forms, since what a text costs to prove grows with the calls beside it.
+
+// The numbers of the forms at which printing starts.
+const REFUSAL: usize = 0;
 
 const FRAME: usize = 1;
 
@@ -32,10 +36,10 @@ const STATE: usize = 7;
 
 const SLOTS: usize = 8;
 
+// What is done with the forms: a text is printed or skipped up to its mark, or the form is found that has the number given for a place.
 enum Walk {
     Print,
     Skip,
-    // To the start of the form that has the number given for the place.
     Form,
 }
 
@@ -52,15 +56,11 @@ fn forms(at: usize, walk: Walk) -> usize {
         interpolation_filter: <EightTap|EightTapSmooth|EightTapSharp|Bilinear|Switchable>, refresh_frame_context: ?, \
         frame_parallel_decoding_mode: ?, frame_context_idx: #@\
         , lf: LoopFilterParams { level: #, sharpness: #, delta_enabled: ?, delta_update: ?, \
-        update_ref_delta: [?, ?, ?, ?], ref_deltas: [#, #, #, #], \
-        update_mode_delta: [?, ?], mode_deltas: [#, #] }@\
+        update_ref_delta: [?, ?, ?, ?], ref_deltas: [#, #, #, #], update_mode_delta: [?, ?], mode_deltas: [#, #] }@\
         , quant: QuantizationParams { base_q_idx: #, delta_q_y_dc: #, delta_q_uv_dc: #, delta_q_uv_ac: # }@\
         , seg: SegmentationParams { enabled: ?, update_map: ?, tree_probs: [#, #, #, #, #, #, #], \
         pred_probs: [#, #, #], temporal_update: ?, update_data: ?, abs_or_delta_update: ?, \
-        feature_enabled: [[?, ?, ?, ?], [?, ?, ?, ?], \
-        [?, ?, ?, ?], [?, ?, ?, ?], \
-        [?, ?, ?, ?], [?, ?, ?, ?], \
-        [?, ?, ?, ?], [?, ?, ?, ?]], \
+        feature_enabled: [[?, ?, ?, ?], [?, ?, ?, ?], [?, ?, ?, ?], [?, ?, ?, ?], [?, ?, ?, ?], [?, ?, ?, ?], [?, ?, ?, ?], [?, ?, ?, ?]], \
         feature_data: [[#, #, #, #], [#, #, #, #], [#, #, #, #], [#, #, #, #], [#, #, #, #], [#, #, #, #], [#, #, #, #], [#, #, #, #]] }@\
         , tile_cols_log2: #, tile_rows_log2: #, lossless: ?, header_size_in_bytes: #, uncompressed_header_size_in_bytes: # }\n@\
         \x20 seg # Segmentation { lvl_lookup: [[#, #], [#, #], [#, #], [#, #]], luma_ac_quant_scale: #, luma_dc_quant_scale: #, \
@@ -112,14 +112,14 @@ fn next_mark(form: &[u8], at: usize) -> usize
     form.len()
 }
 
-// The start of the n-th form, counted from 1.
+// The start of the n-th form, counted from 0.
 fn nth_form(form: &[u8], n: usize) -> usize {
     let mut left = n;
     for i in 0..form.len() {
+        if left == 0 {
+            return i;
+        }
         if form[i] == b'@' {
-            if left <= 1 {
-                return i + 1;
-            }
             left -= 1;
         }
     }
@@ -180,17 +180,13 @@ fn choice(at: usize, words: u32, k: u32) -> usize {
     next
 }
 
-fn print_truth(b: bool) {
+fn flag(at: usize, b: bool) -> usize {
+    let next = text(at);
     if b {
         io::write_all(STDOUT_FILENO, b"true");
     } else {
         io::write_all(STDOUT_FILENO, b"false");
     }
-}
-
-fn flag(at: usize, b: bool) -> usize {
-    let next = text(at);
-    print_truth(b);
     next
 }
 
@@ -359,14 +355,12 @@ fn state_colors(st: ReaderState) {
     text(colors(at, depth, st.subsampling_x, st.subsampling_y, space, range));
 }
 
-fn size(at: usize, s: FrameSize) -> usize {
-    word(word(at, s.width), s.height)
-}
-
 fn print_slots(s: [FrameSize; ReaderState::REF_FRAMES]) {
     let mut at = forms(SLOTS, Walk::Form);
     for i in 0..8usize {
-        at = size(at, s[i]);
+        let size = s[i];
+        at = word(at, size.width);
+        at = word(at, size.height);
     }
     text(at);
 }
@@ -459,7 +453,7 @@ fn print_frames(
 }
 
 fn print_refusal(chunk: u64, refusal: u8, frame: usize) {
-    let at = number(0, chunk);
+    let at = number(forms(REFUSAL, Walk::Form), chunk);
     let at = byte(at, refusal);
     text(number(at, frame as u64));
 }
@@ -547,6 +541,7 @@ fn read_record(buf: &mut [u8]) -> Record {
     }
 }
 
+// The first n bytes. There are never fewer.
 fn front(s: &[u8], n: usize) -> &[u8] {
     if n > s.len() {
         return s;
@@ -555,7 +550,7 @@ fn front(s: &[u8], n: usize) -> &[u8] {
     &s[start..n]
 }
 
-fn take_record(record: Record, buf: &[u8], series: Series) -> Series {
+fn after_record(record: Record, buf: &[u8], series: Series) -> Series {
     match record {
         Record::Chunk(n) => answer_chunk(front(buf, n), series),
         _ => fresh(),
@@ -572,7 +567,7 @@ fn main() {
         if let Record::End = record {
             return;
         }
-        series = take_record(record, &buf, series);
+        series = after_record(record, &buf, series);
         left -= 1;
     }
 }

@@ -32,11 +32,11 @@ enum-told c = search needs
 returns : tie.Need-returns Inv-loop μ-loop
 returns c = search needs
 
-slice-aggregate-take-record : tie.Need-slice-aggregate-take-record Inv-loop μ-loop
-slice-aggregate-take-record c = search needs
+slice-aggregate-after-record : tie.Need-slice-aggregate-after-record Inv-loop μ-loop
+slice-aggregate-after-record c = search needs
 
-take-record-requires : tie.Need-take-record-requires Inv-loop μ-loop
-take-record-requires c κs = search needs
+after-record-requires : tie.Need-after-record-requires Inv-loop μ-loop
+after-record-requires c κs = search needs
 
 sub-left : tie.Need-sub-left Inv-loop μ-loop
 sub-left c = search needs
@@ -63,8 +63,8 @@ main-spec =
     read-record-requires
     enum-told
     returns
-    slice-aggregate-take-record
-    take-record-requires
+    slice-aggregate-after-record
+    after-record-requires
     sub-left
     loop-less
     loop-again

@@ -22,8 +22,11 @@ mul-size c = search needs
 array-copy-out-size : tie.Need-array-copy-out-size Inv-loop μ-loop
 array-copy-out-size c = search needs
 
-size-requires : tie.Need-size-requires Inv-loop μ-loop
-size-requires c κs = search needs
+word-requires : tie.Need-word-requires Inv-loop μ-loop
+word-requires c κs = search needs
+
+word-requires-2 : tie.Need-word-requires-2 Inv-loop μ-loop
+word-requires-2 c κs = search needs
 
 add-i : tie.Need-add-i Inv-loop μ-loop
 add-i c = search needs
@@ -50,7 +53,8 @@ print-slots-spec =
     loop-holds
     mul-size
     array-copy-out-size
-    size-requires
+    word-requires
+    word-requires-2
     add-i
     loop-less
     loop-again
