@@ -4,3 +4,5 @@ pub mod Cases
 pub mod Stands
 pub mod Table
 pub mod Inside
+pub mod Little
+pub mod Spelling

@@ -23,7 +23,7 @@ differ : {A : Type 0} → true ≡ false → A
 differ e = let z : _≡_ {A = ℕ} 0 1 = cc in absurd (omega arith)
 
 module _ (f : List ℕ) where
-  lacks : (at : ℕ) (bs : List ℕ) → at + length bs ≤ length f → standsAt f at bs ≡ false → Lacks f at bs
+  pub lacks : (at : ℕ) (bs : List ℕ) → at + length bs ≤ length f → standsAt f at bs ≡ false → Lacks f at bs
   lacks at bs h e p = differ (sym (part-stands f at bs h p) ∙ e)
 
   -- by what the code compares
