@@ -4,5 +4,6 @@ pub mod Cases
 pub mod Stands
 pub mod Table
 pub mod Inside
+pub mod Part
 pub mod Little
 pub mod Spelling
