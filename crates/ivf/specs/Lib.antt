@@ -1,0 +1,4 @@
+pub mod File
+pub mod Record
+pub mod Table
+pub mod Spelling
