@@ -1,0 +1,6 @@
+pub mod Numbers
+pub mod Four
+pub mod Cases
+pub mod Stands
+pub mod Table
+pub mod Inside
