@@ -69,9 +69,8 @@ fn parse(input: &[u8], from: usize, to: usize, state: ReaderState) -> ChunkRead 
 }
 
 // Reads the data of the record at `start`, which is at hand.
-pub fn read_chunk(input: &[u8], run: Run, size: usize) -> ChunkRead {
+pub fn read_chunk(input: &[u8], run: Run, size: usize, state: ReaderState) -> ChunkRead {
     let from = forward(run.start, run.end, 12);
     let to = forward(from, run.end, size);
-    let state = run.state;
     parse(input, from, to, state)
 }

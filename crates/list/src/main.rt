@@ -13,6 +13,13 @@ use ivf::FileRead;
 use listing::Next;
 use run::Run;
 use types::MAX_FRAMES_IN_SUPERFRAME;
+use types::ReaderState;
+
+// After a turn.
+struct After {
+    run: Run,
+    state: ReaderState,
+}
 
 // Where the file goes wrong: refusal 8, and the last line.
 fn cut(out: &mut [u8], run: Run) -> Run {
@@ -48,12 +55,11 @@ fn frames(out: &mut [u8], at: usize, chunk: u64, count: usize, read: ChunkRead) 
     next
 }
 
-// A chunk that was read.
+// The lines of a chunk that was read.
 fn listed(out: &mut [u8], run: Run, read: ChunkRead) -> Run {
     let answer = read.answer;
-    let state = read.state;
     match answer {
-        Answer::Frames(count) => run.accepted(frames(out, run.at, run.chunks, count, read), state),
+        Answer::Frames(count) => run.accepted(frames(out, run.at, run.chunks, count, read)),
         Answer::Empty => refused(out, run, answer),
         Answer::Short => refused(out, run, answer),
         Answer::Past(_) => refused(out, run, answer),
@@ -77,27 +83,43 @@ fn pass(input: &mut [u8], out: &mut [u8], run: Run) -> Run {
     input::refilled(input, passed)
 }
 
-// What stands next in the input.
-fn step(input: &mut [u8], out: &mut [u8], run: Run) -> Run {
-    let next = input::next_at(input, run);
+fn with_state(run: Run, state: ReaderState) -> After {
+    After { run, state }
+}
+
+// A record that is at hand.
+fn data(input: &[u8], out: &mut [u8], run: Run, size: usize, before: ReaderState) -> After {
+    let read = input::read_chunk(input, run, size, before);
+    let state = read.state;
+    with_state(listed(out, run.moved(size), read), state)
+}
+
+// Where no record is at hand.
+fn no_data(input: &mut [u8], out: &mut [u8], run: Run, next: Next) -> Run {
     match next {
         Next::End => end(out, run),
         Next::Cut => cut(out, run),
         Next::More => input::refilled(input, run),
-        Next::Data(size) => {
-            let read = input::read_chunk(input, run, size);
-            listed(out, run.moved(size), read)
-        }
+        Next::Data(_) => run,
         Next::Long(size) => run.skipping(size),
     }
 }
 
-fn turn(input: &mut [u8], out: &mut [u8], run: Run) -> Run {
-    let run = output::flushed(out, run);
+// What stands next in the input.
+fn step(input: &mut [u8], out: &mut [u8], run: Run, state: ReaderState) -> After {
+    let next = input::next_at(input, run);
+    let Next::Data(size) = next else {
+        return with_state(no_data(input, out, run, next), state);
+    };
+    data(input, out, run, size, state)
+}
+
+fn turn(input: &mut [u8], out: &mut [u8], before: Run, state: ReaderState) -> After {
+    let run = output::flushed(out, before);
     if run.skip > 0 {
-        pass(input, out, run)
+        with_state(pass(input, out, run), state)
     } else {
-        step(input, out, run)
+        step(input, out, run, state)
     }
 }
 
@@ -114,9 +136,14 @@ fn open(input: &mut [u8], out: &mut [u8]) -> Run {
 // Nothing says that the input ends, so the turns are counted down.
 fn list(input: &mut [u8], out: &mut [u8]) {
     let mut run = open(input, out);
+    let mut state = ReaderState::fresh();
     let mut left = u64::MAX;
     while left > 0 && run.going {
-        run = turn(input, out, run);
+        let after = turn(input, out, run, state);
+        let next_run = after.run;
+        let next_state = after.state;
+        run = next_run;
+        state = next_state;
         left -= 1;
     }
     output::write(out, run.at);

@@ -1,6 +1,4 @@
-// What is kept from record to record.
-use types::ReaderState;
-
+// What is kept from record to record, besides the reader's state.
 pub struct Run {
     // The input that is read and not used yet.
     pub start: usize,
@@ -14,7 +12,6 @@ pub struct Run {
     pub chunks: u64,
     pub refused: u64,
     pub going: bool,
-    pub state: ReaderState,
 }
 
 fn one_more(n: u64) -> u64 {
@@ -43,7 +40,6 @@ impl Run {
             chunks: 0,
             refused: 0,
             going: true,
-            state: ReaderState::fresh(),
         }
     }
 
@@ -82,10 +78,9 @@ impl Run {
         self
     }
 
-    pub fn accepted(mut self, at: usize, state: ReaderState) -> Run {
+    pub fn accepted(mut self, at: usize) -> Run {
         self.at = at;
         self.chunks = one_more(self.chunks);
-        self.state = state;
         self
     }
 

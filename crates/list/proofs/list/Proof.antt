@@ -6,13 +6,16 @@ use Rattle.list.proofs.list.Statement.{statement}
 use Rattle.list.proofs.list.Tie as tie
 
 abbrev Inv-loop : tie.InvT-loop
-Inv-loop input₀ out₀ run₀ left₀ input out run left = (length input ≡ length input₀) × (length out ≡ length out₀)
+Inv-loop input₀ out₀ run₀ state₀ left₀ input out run state left = (length input ≡ length input₀) × (length out ≡ length out₀)
 
 abbrev μ-loop : tie.MeasureT-loop
-μ-loop input₀ out₀ run₀ left₀ input out run left = left
+μ-loop input₀ out₀ run₀ state₀ left₀ input out run state left = left
 
 open-requires : tie.Need-open-requires Inv-loop μ-loop
 open-requires c κs = search needs
+
+fresh-requires : tie.Need-fresh-requires Inv-loop μ-loop
+fresh-requires c κs = search needs
 
 loop-holds : tie.Need-loop-holds Inv-loop μ-loop
 loop-holds c = search needs
@@ -48,6 +51,7 @@ list-spec =
     Inv-loop
     μ-loop
     open-requires
+    fresh-requires
     loop-holds
     turn-requires
     sub-left
