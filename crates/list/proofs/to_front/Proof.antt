@@ -3,8 +3,8 @@ use mathlib.Core.Path.{_≡_}
 use Prim.Native.Nat.{_≤_, _-_}
 use lib.ListN.{length, length-set}
 use borrow.Author.Needs.{needs}
-use Rattle.list.proofs.input.to_front.Statement.{statement}
-use Rattle.list.proofs.input.to_front.Tie as tie
+use Rattle.list.proofs.to_front.Statement.{statement}
+use Rattle.list.proofs.to_front.Tie as tie
 
 abbrev Inv-loop : tie.InvT-loop
 Inv-loop input₀ start end n i₀ input i = (i ≤ n) × (n ≡ end - start) × (length input ≡ length input₀)
