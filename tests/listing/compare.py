@@ -13,18 +13,17 @@ Exit 0 if all agrees, 1 on a difference."""
 import argparse
 import glob
 import os
-import platform
 import random
-import shutil
 import subprocess
 import sys
 
 sys.dont_write_bytecode = True
 HERE = os.path.dirname(os.path.abspath(__file__))
 ROOT = os.path.abspath(os.path.join(HERE, "..", ".."))
-sys.path += [os.path.join(HERE, "..", "handmade"), os.path.join(HERE, "..", "recordings")]
+sys.path += [os.path.join(HERE, "..", "handmade"), os.path.join(HERE, "..", "recordings"), os.path.join(HERE, "..", "reader")]
 
 import expect
+import program
 from traces import read_trace
 
 COLUMNS = "chunk frame kind at size width height refresh hdr"
@@ -156,20 +155,8 @@ def long_files():
 
 # The program.
 
-def tools_folder():
-    """The folder of the kit's loader and emulator, found as `rt` finds it."""
-    rt = shutil.which("rt") or "/opt/rattle/bin/rt"
-    home = os.environ.get("RATTLE_HOME") or os.path.dirname(os.path.dirname(os.path.realpath(rt)))
-    return os.path.join(home, "on", platform.machine(), "toolchain")
-
-
 def command():
-    """As `rt` runs a program: under the kit's loader, and its emulator where there is one."""
-    tools = tools_folder()
-    emulator = os.path.join(tools, "bin", "qemu-x86_64")
-    loader = os.path.join(tools, "lib", "ld-linux-x86-64.so.2")
-    return ([emulator] if os.access(emulator, os.X_OK) else []) + [
-        loader, "--library-path", os.path.join(tools, "lib"), os.path.join(ROOT, "target", "bin", "list")]
+    return program.command(os.path.join(ROOT, "target", "bin", "list"), program.kit_tools())
 
 
 def listing(data):
@@ -265,13 +252,13 @@ def with_ffmpeg():
 
 def peak(data):
     """The program's largest memory in kB, once it has read this and waits."""
-    program = subprocess.Popen(command(), stdin=subprocess.PIPE, stdout=subprocess.DEVNULL)
-    program.stdin.write(data)
-    program.stdin.flush()
-    with open(f"/proc/{program.pid}/status") as file:
+    running = subprocess.Popen(command(), stdin=subprocess.PIPE, stdout=subprocess.DEVNULL)
+    running.stdin.write(data)
+    running.stdin.flush()
+    with open(f"/proc/{running.pid}/status") as file:
         most = next(int(line.split()[1]) for line in file if line.startswith("VmHWM"))
-    program.stdin.close()
-    program.wait()
+    running.stdin.close()
+    running.wait()
     return most
 
 

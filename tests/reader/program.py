@@ -1,4 +1,4 @@
-"""Runs the proved program, as `rt` does."""
+"""Runs a proved program, as `rt` does."""
 
 import os
 import platform
@@ -27,10 +27,13 @@ def kit_tools():
     return os.path.join(home, "on", platform.machine(), "toolchain")
 
 
-def run(program, tools, given, output):
-    """Runs it under the kit's loader, and its emulator where there is one, from file to file."""
+def command(program, tools):
+    """It, under the kit's loader, and its emulator where there is one."""
     emulator = os.path.join(tools, "bin", "qemu-x86_64")
     loader = os.path.join(tools, "lib", "ld-linux-x86-64.so.2")
-    subprocess.run(([emulator] if os.access(emulator, os.X_OK) else [])
-                   + [loader, "--library-path", os.path.join(tools, "lib"), program],
-                   stdin=given, stdout=output, check=True)
+    return ([emulator] if os.access(emulator, os.X_OK) else []) + [loader, "--library-path", os.path.join(tools, "lib"), program]
+
+
+def run(program, tools, given, output):
+    """Runs it from file to file."""
+    subprocess.run(command(program, tools), stdin=given, stdout=output, check=True)

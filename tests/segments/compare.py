@@ -24,7 +24,7 @@ ROOT = os.path.abspath(os.path.join(HERE, "..", ".."))
 sys.path.insert(0, os.path.join(HERE, "..", "reader"))
 
 from cases import Cases, case_bytes, expect
-from compare import command, kit_tools
+from program import command, kit_tools
 
 SEED = 5
 
