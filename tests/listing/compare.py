@@ -12,6 +12,7 @@ Exit 0 if all agrees, 1 on a difference."""
 
 import argparse
 import glob
+import itertools
 import os
 import random
 import subprocess
@@ -23,6 +24,7 @@ ROOT = os.path.abspath(os.path.join(HERE, "..", ".."))
 sys.path += [os.path.join(HERE, "..", "handmade"), os.path.join(HERE, "..", "recordings"), os.path.join(HERE, "..", "reader")]
 
 import expect
+import inputs
 import program
 from traces import read_trace
 
@@ -155,12 +157,17 @@ def long_files():
 
 # The program.
 
-def command():
-    return program.command(os.path.join(ROOT, "target", "bin", "list"), program.kit_tools())
+def command(name="list"):
+    return program.command(os.path.join(ROOT, "target", "bin", name), program.kit_tools())
 
 
 def listing(data):
     return subprocess.run(command(), input=data, capture_output=True, check=True).stdout.decode()
+
+
+def trace(data):
+    """The long form. The program takes a file behind a byte 2."""
+    return subprocess.run(command("trace"), input=b"\2" + data, capture_output=True, check=True).stdout.decode()
 
 
 class Tally:
@@ -223,6 +230,32 @@ def with_judge(judge):
     return tally.report("recordings with the Rust")
 
 
+def in_domain(path):
+    """Whether the Rust is a judge of every record."""
+    state = expect.State()
+    for chunk in inputs.ivf_chunks(path):
+        frames, state = expect.read_chunk(chunk, state)
+        if expect.outside_frames(frames):
+            return False
+    return True
+
+
+def traces_with_judge(judge):
+    tally = Tally()
+    for path in filter(in_domain, recordings()):
+        rust = subprocess.run([judge, "--trace", path], capture_output=True, check=True).stdout.decode()
+        tally.same(os.path.basename(path), rust, trace(read(path)))
+    return tally.report("recordings in the long form with the Rust, byte for byte")
+
+
+def traces(files):
+    """Without its records the long form is the listing."""
+    tally = Tally()
+    for name, data in files:
+        tally.same(name, listing(data), "".join(line for line in trace(data).splitlines(True) if not line.startswith("  ")))
+    return tally.report("the long form without its records")
+
+
 def is_key(frame):
     return not frame.get("show_existing_frame") and frame.get("frame_type") == 0
 
@@ -280,6 +313,7 @@ def with_bin():
     runs = [("a good file", (0, EXAMPLE), status([], good)), ("a cut file", (1, model(cut)), status([], cut)),
             ("no file", (1, model(b"")), status([], b"")), ("a name", (0, model(read(path))), status([path])),
             ("no such file", (2, ""), status([path + "x"])), ("an option", (2, ""), status(["--what"])),
+            ("the long form", (0, trace(read(path))), status(["--trace", path])),
             ("help", (0, "usage: bin/list"), (lambda s: (s[0], s[1][:15]))(status(["--help"])))]
     with open("/dev/full", "wb") as full:
         runs.append(("a full device", True, status([], good, full)[0] > 1))
@@ -294,11 +328,11 @@ def main():
     parser.add_argument("--judge")
     options = parser.parse_args()
     if options.judge:
-        right = [with_judge(options.judge)]
+        right = [with_judge(options.judge), traces_with_judge(options.judge)]
     else:
         right = [example(), compare("damaged files", damaged_files()), compare("long files", long_files()),
                  compare("recordings", ((os.path.basename(p), read(p)) for p in recordings())), with_ffmpeg(),
-                 memory(), with_bin()]
+                 traces(itertools.chain([("example", ivf(F, b""))], damaged_files(), long_files())), memory(), with_bin()]
     sys.exit(0 if all(right) else 1)
 
 

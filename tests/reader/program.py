@@ -7,7 +7,7 @@ import struct
 import subprocess
 
 ROOT = os.path.abspath(os.path.join(os.path.dirname(os.path.abspath(__file__)), "..", ".."))
-PROGRAM = os.path.join(ROOT, "target", "bin", "read_chunks")
+PROGRAM = os.path.join(ROOT, "target", "bin", "trace")
 # A longer chunk ends the program.
 LONGEST = 65536
 FRESH = b"\0"
