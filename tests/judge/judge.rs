@@ -124,18 +124,19 @@ enum Input {
 struct Options {
     input: Input,
     trace: bool,
+    list: bool,
     records: bool,
     state: bool,
     file: Option<String>,
 }
 
 const USAGE: &str = "usage: judge [--brief | --quiet-state] (--hex | --ivf) [FILE]
-       judge --trace [FILE]
-FILE is - or left out for standard input; --trace takes an IVF file";
+       judge (--trace | --list) [FILE]
+FILE is - or left out for standard input; --trace and --list take an IVF file";
 
 fn read_options() -> Option<Options> {
     let mut options =
-        Options { input: Input::Hex, trace: false, records: true, state: true, file: None };
+        Options { input: Input::Hex, trace: false, list: false, records: true, state: true, file: None };
     for arg in std::env::args().skip(1) {
         match arg.as_str() {
             "--hex" => options.input = Input::Hex,
@@ -144,6 +145,7 @@ fn read_options() -> Option<Options> {
                 options.trace = true;
                 options.input = Input::Ivf;
             }
+            "--list" => options.list = true,
             "--brief" => {
                 options.records = false;
                 options.state = false;
@@ -204,22 +206,32 @@ fn kind(header: &Header) -> &'static str {
     }
 }
 
-/// Prints one accepted frame as the long form of the listing has it.
-fn print_listed(out: &mut impl Write, chunk: u64, number: usize, seen: &Seen) -> io::Result<()> {
-    let header = &seen.header;
+/// Prints the line of an accepted frame.
+fn print_line(
+    out: &mut impl Write,
+    chunk: u64,
+    number: usize,
+    (offset, size): (usize, usize),
+    header: &Header,
+) -> io::Result<()> {
     writeln!(
         out,
         "{} {} {} {} {} {} {} {} {}",
         chunk,
         number,
         kind(header),
-        seen.offset,
-        seen.size,
+        offset,
+        size,
         header.width,
         header.height,
         header.refresh_frame_flags,
         header.uncompressed_header_size_in_bytes
-    )?;
+    )
+}
+
+/// Prints one accepted frame as the long form of the listing has it.
+fn print_listed(out: &mut impl Write, chunk: u64, number: usize, seen: &Seen) -> io::Result<()> {
+    print_line(out, chunk, number, (seen.offset, seen.size), &seen.header)?;
     print_records(out, seen)
 }
 
@@ -298,6 +310,29 @@ fn run_ivf(options: &Options, out: &mut impl Write) -> io::Result<()> {
         writeln!(out, "file refused 8")?;
     }
     Ok(())
+}
+
+/// The plain listing as a caller of the Rust would write it, for tests/listing/measure.py: nothing is cloned, no panic is caught.
+fn run_list(options: &Options, out: &mut impl Write) -> io::Result<()> {
+    let file = read_all(&options.file)?;
+    writeln!(out, "chunk frame kind at size width height refresh hdr")?;
+    let mut parser = Parser::default();
+    let (mut chunks, mut refused) = (0u64, 0u64);
+    walk_ivf(&file, |number, data| {
+        chunks += 1;
+        match parser.parse_chunk(data) {
+            Ok(frames) => frames.iter().enumerate().try_for_each(|(i, frame)| {
+                let part: &[u8] = frame.as_ref();
+                let offset = part.as_ptr() as usize - data.as_ptr() as usize;
+                print_line(out, number, i, (offset, part.len()), &frame.header)
+            }),
+            Err(_) => {
+                refused += 1;
+                writeln!(out, "{} refused ? frame ?", number)
+            }
+        }
+    })?;
+    writeln!(out, "{} chunks {} refused", chunks, refused)
 }
 
 fn run_trace(options: &Options, out: &mut impl Write) -> io::Result<()> {
@@ -404,6 +439,9 @@ fn run_hex(options: &Options, out: &mut impl Write) -> io::Result<()> {
 
 fn run(options: &Options) -> io::Result<()> {
     let mut out = BufWriter::with_capacity(1 << 16, io::stdout().lock());
+    if options.list {
+        return run_list(options, &mut out).and_then(|()| out.flush());
+    }
     match (options.trace, options.input) {
         (true, _) => run_trace(options, &mut out)?,
         (false, Input::Ivf) => run_ivf(options, &mut out)?,

@@ -1,13 +1,17 @@
 #!/usr/bin/env python3
-"""Measures the listing of a long file beside `cat`, and the memory it takes.
+"""Measures the listing of a long file beside `cat`, and its instructions for a record beside the Rust's.
 
 Usage: measure.py [--megabytes N] [--runs N]
 
 The file is made by repeating the records of a recording (tests/recordings). The program is
-target/bin/list, made by `rt check list`. Each run times both, in turn; the least of each counts."""
+target/bin/list, made by `rt check list`. Each run times both, in turn; the least of each counts.
+The instructions (valgrind, x86-64) are those of `list` and of `judge --list` (tests/judge/build)
+on each recording's records once and eleven times, by the difference for one record."""
 
 import argparse
 import os
+import re
+import shutil
 import subprocess
 import sys
 import tempfile
@@ -15,9 +19,10 @@ import time
 
 sys.dont_write_bytecode = True
 
-from compare import command, read, recordings
+from compare import ROOT, command, read, recordings
 
 RECORDING = "altref.ivf"
+BESIDE = ("altref.ivf", "aq-cyclic.ivf", "intra-only.ivf", "keys.ivf", "p3-444-10.ivf", "pyramid.ivf", "tiles-2x2.ivf")
 
 
 def long_file(megabytes):
@@ -31,6 +36,34 @@ def seconds(words, path):
         start = time.perf_counter()
         subprocess.run(words, stdin=file, stdout=subprocess.DEVNULL, check=True)
         return time.perf_counter() - start
+
+
+def instructions(words, data):
+    with tempfile.TemporaryFile() as file:
+        file.write(data)
+        file.seek(0)
+        run = subprocess.run(["valgrind", "--tool=callgrind", "--callgrind-out-file=/dev/null", *words],
+                             stdin=file, stdout=subprocess.PIPE, stderr=subprocess.PIPE, check=True)
+    return int(re.search(rb"Collected : (\d+)", run.stderr).group(1)), run.stdout
+
+
+def for_a_record(words, data):
+    """Instructions for a record, and what was listed."""
+    head, records = data[:32], data[32:]
+    once, listed = instructions(words, data)
+    often, _ = instructions(words, head + records * 11)
+    return (often - once) / 10 / int(listed.split(b"\n")[-2].split()[0]), listed
+
+
+def beside_the_rust():
+    judge = os.path.join(ROOT, "target", "judge", "judge")
+    print("| Recording | The Rust | Here | Ratio |\n|---|---|---|---|")
+    for path in recordings():
+        if os.path.basename(path) in BESIDE:
+            rust, want = for_a_record([judge, "--list", "-"], read(path))
+            here, got = for_a_record([os.path.join(ROOT, "target", "bin", "list")], read(path))
+            assert want == got, path
+            print(f"| {os.path.basename(path)} | {rust:.0f} | {here:.0f} | {here / rust:.2f} |")
 
 
 def main():
@@ -51,6 +84,8 @@ def main():
     for name, times in (("list", listed), ("cat", copied)):
         print(f"{name}: {size / min(times):.0f} MB/s ({min(times):.3f} s for {size:.0f} MB)")
     print(f"list takes {min(listed) / min(copied):.1f} times as long; {last.decode()}")
+    if shutil.which("valgrind"):
+        beside_the_rust()
 
 
 if __name__ == "__main__":
