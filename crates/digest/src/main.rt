@@ -1,5 +1,6 @@
 // Answers chunks by a line of digests each, for the runs that put millions of them, and for the benchmark of a parse and of a segment step.
 // tests/reader/DIGEST.md says what is read and what is printed.
+ghost use Prim.Native.Nat.{_≤_};
 use chunk::Answer;
 use chunk::ChunkRead;
 use coded::Little;
@@ -12,6 +13,7 @@ use segments::Segmentation;
 use types::FrameSize;
 use types::Header;
 use types::LoopFilterParams;
+use types::MAX_FRAMES_IN_SUPERFRAME;
 use types::QuantizationParams;
 use types::ReaderState;
 use types::SegmentationParams;
@@ -257,15 +259,11 @@ struct Fold {
     segments: [Segmentation; 8],
 }
 
-// With the i-th frame. There are never more than eight.
-fn with_frame(i: usize, read: ChunkRead, before: Fold) -> Fold {
-    if i >= 8 {
-        return before;
-    }
-    let header = read.headers[i];
+// With one frame more.
+fn with_frame(at: usize, size: usize, header: Header, before: Fold) -> Fold {
     let old = before.segments;
     let new = Segmentation::update_segmentation(old, header);
-    let h = place(place(before.digest, read.at[i]), read.size[i]);
+    let h = place(place(before.digest, at), size);
     let h = whole_header(h, header);
     Fold {
         digest: segments(h, new),
@@ -273,26 +271,35 @@ fn with_frame(i: usize, read: ChunkRead, before: Fold) -> Fold {
     }
 }
 
-fn fold_frames(frames: usize, read: ChunkRead, old: [Segmentation; 8]) -> Fold {
-    let mut folded = Fold {
+// How many frames there are, never more than eight.
+fn frames_of(answer: Answer) -> usize
+    ensures { λ r. ⌜ r ≤ 8 ⌝ }
+{
+    let Answer::Frames(n) = answer else {
+        return 0;
+    };
+    if n < MAX_FRAMES_IN_SUPERFRAME {
+        n
+    } else {
+        MAX_FRAMES_IN_SUPERFRAME
+    }
+}
+
+fn fold_frames(read: ChunkRead, old: [Segmentation; 8]) -> Fold {
+    let answer = read.answer;
+    let places = read.at;
+    let sizes = read.size;
+    let headers = read.headers;
+    let mut fold = Fold {
         digest: 0,
         segments: old,
     };
-    for i in 0..frames {
-        folded = with_frame(i, read, folded);
+    let n = frames_of(answer);
+    for i in 0..n {
+        let header = headers[i];
+        fold = with_frame(places[i], sizes[i], header, fold);
     }
-    folded
-}
-
-fn folded(read: ChunkRead, old: [Segmentation; 8]) -> Fold {
-    let answer = read.answer;
-    let Answer::Frames(n) = answer else {
-        return Fold {
-            digest: 0,
-            segments: old,
-        };
-    };
-    fold_frames(n, read, old)
+    fold
 }
 
 // The line.
@@ -334,6 +341,8 @@ fn print_line(answer: Answer, frames: u32, segments: u32, state: u32) {
     write_text(&out, n);
 }
 
+// The answers.
+
 // What is remembered from chunk to chunk.
 struct Series {
     state: ReaderState,
@@ -347,24 +356,256 @@ fn fresh() -> Series {
     }
 }
 
-fn answer_chunk(s: &[u8], series: Series) -> Series {
-    let read = chunk::parse_chunk(s, series.state);
-    let old = series.segments;
-    let after = folded(read, old);
-    let state = read.state;
-    let new = after.segments;
-    let answer = read.answer;
-    print_line(answer, after.digest, segments(0, new), state_digest(state));
-    Series {
-        state,
-        segments: new,
+// What is done with a chunk. A benchmark tells the cost of a parse, or of a segment step, from two counts; it keeps nothing.
+enum Work {
+    Answer,
+    Parses(u64),
+    // On the first header, from the records at hand.
+    Steps(u64),
+}
+
+fn parses(work: Work) -> u64 {
+    match work {
+        Work::Parses(n) => n,
+        _ => 1,
     }
 }
 
-// A record of the input: a chunk is so many bytes at the buffer's start.
+fn no_frames(state: ReaderState) -> ChunkRead {
+    ChunkRead {
+        answer: Answer::Frames(0),
+        at: [0usize; MAX_FRAMES_IN_SUPERFRAME],
+        size: [0usize; MAX_FRAMES_IN_SUPERFRAME],
+        headers: [Header::default(); MAX_FRAMES_IN_SUPERFRAME],
+        state,
+    }
+}
+
+// The last of n parses, each under the state that the one before it left, so that none can be left out.
+fn parsed(s: &[u8], st: ReaderState, n: u64) -> ChunkRead {
+    let mut state = st;
+    let mut left = n;
+    while left > 0 {
+        let read = chunk::parse_chunk(s, state);
+        if left == 1 {
+            return read;
+        }
+        let after = read.state;
+        state = after;
+        left -= 1;
+    }
+    no_frames(st)
+}
+
+fn stepped(header: Header, old: [Segmentation; 8], n: u64) -> [Segmentation; 8] {
+    let mut new = old;
+    for _ in 0..n {
+        let after = Segmentation::update_segmentation(new, header);
+        new = after;
+    }
+    new
+}
+
+// The records that are printed.
+fn records(
+    work: Work,
+    header: Header,
+    old: [Segmentation; 8],
+    new: [Segmentation; 8],
+) -> [Segmentation; 8] {
+    match work {
+        Work::Steps(n) => stepped(header, old, n),
+        _ => new,
+    }
+}
+
+fn answer_chunk(s: &[u8], work: Work, series: Series) -> Series {
+    let read = parsed(s, series.state, parses(work));
+    let old = series.segments;
+    let fold = fold_frames(read, old);
+    let new = fold.segments;
+    let last = records(work, read.headers[0], old, new);
+    let state = read.state;
+    let answer = read.answer;
+    print_line(answer, fold.digest, segments(0, last), state_digest(state));
+    match work {
+        Work::Answer => Series {
+            state,
+            segments: new,
+        },
+        _ => series,
+    }
+}
+
+// The state that 234 bytes spell.
+
+fn byte_at(s: &[u8], i: usize) -> u8 {
+    if i < s.len() { s[i] } else { 0 }
+}
+
+fn flag_at(s: &[u8], i: usize) -> bool {
+    byte_at(s, i) == 1
+}
+
+// What stands from `at` on.
+fn rest(s: &[u8], at: usize) -> &[u8] {
+    if at > s.len() {
+        return s;
+    }
+    &s[at..]
+}
+
+fn signed_8(sign: u8, magnitude: u8) -> i8 {
+    let m = (magnitude % 128) as i8;
+    match sign {
+        0 => m,
+        1 => -m,
+        _ => -128,
+    }
+}
+
+fn signed_16(sign: u8, high: u8, low: u8) -> i16 {
+    let m = ((high % 128) as u16 * 256 + low as u16) as i16;
+    match sign {
+        0 => m,
+        1 => -m,
+        _ => -32768,
+    }
+}
+
+fn signed_byte_at(s: &[u8], at: usize) -> i8 {
+    let b = rest(s, at);
+    signed_8(byte_at(b, 0), byte_at(b, 1))
+}
+
+fn signed_short_at(s: &[u8], at: usize) -> i16 {
+    let b = rest(s, at);
+    signed_16(byte_at(b, 0), byte_at(b, 1), byte_at(b, 2))
+}
+
+fn number_at(s: &[u8], at: usize) -> u32 {
+    let Little::Value(n) = coded::read_little(s, at, 4) else {
+        return 0;
+    };
+    (n % 4294967296) as u32
+}
+
+fn size_at(s: &[u8], at: usize) -> FrameSize {
+    let b = rest(s, at);
+    FrameSize {
+        width: number_at(b, 0),
+        height: number_at(b, 4),
+    }
+}
+
+fn loop_filter_of(s: &[u8]) -> LoopFilterParams {
+    LoopFilterParams {
+        level: byte_at(s, 0),
+        sharpness: byte_at(s, 1),
+        delta_enabled: flag_at(s, 2),
+        delta_update: flag_at(s, 3),
+        update_ref_delta: [flag_at(s, 4), flag_at(s, 5), flag_at(s, 6), flag_at(s, 7)],
+        ref_deltas: [
+            signed_byte_at(s, 8),
+            signed_byte_at(s, 10),
+            signed_byte_at(s, 12),
+            signed_byte_at(s, 14),
+        ],
+        update_mode_delta: [flag_at(s, 16), flag_at(s, 17)],
+        mode_deltas: [signed_byte_at(s, 18), signed_byte_at(s, 20)],
+    }
+}
+
+fn tree_probs_of(s: &[u8]) -> [u8; SegmentationParams::SEG_TREE_PROBS] {
+    [
+        byte_at(s, 2),
+        byte_at(s, 3),
+        byte_at(s, 4),
+        byte_at(s, 5),
+        byte_at(s, 6),
+        byte_at(s, 7),
+        byte_at(s, 8),
+    ]
+}
+
+fn feature_enabled_of(s: &[u8]) -> [bool; SegmentationParams::FEATURES] {
+    let mut out = [false; SegmentationParams::FEATURES];
+    for i in 0..SegmentationParams::FEATURES {
+        out[i] = flag_at(s, i);
+    }
+    out
+}
+
+fn feature_data_of(s: &[u8]) -> [i16; SegmentationParams::FEATURES] {
+    let mut out = [0i16; SegmentationParams::FEATURES];
+    for i in 0..SegmentationParams::FEATURES {
+        out[i] = signed_short_at(s, i * 3);
+    }
+    out
+}
+
+fn segmentation_of(s: &[u8]) -> SegmentationParams {
+    SegmentationParams {
+        enabled: flag_at(s, 0),
+        update_map: flag_at(s, 1),
+        tree_probs: tree_probs_of(s),
+        pred_probs: [byte_at(s, 9), byte_at(s, 10), byte_at(s, 11)],
+        temporal_update: flag_at(s, 12),
+        update_data: flag_at(s, 13),
+        abs_or_delta_update: flag_at(s, 14),
+        feature_enabled: feature_enabled_of(rest(s, 15)),
+        feature_data: feature_data_of(rest(s, 47)),
+    }
+}
+
+fn slots_of(s: &[u8]) -> [FrameSize; ReaderState::REF_FRAMES] {
+    [
+        size_at(s, 0),
+        size_at(s, 8),
+        size_at(s, 16),
+        size_at(s, 24),
+        size_at(s, 32),
+        size_at(s, 40),
+        size_at(s, 48),
+        size_at(s, 56),
+    ]
+}
+
+fn depth_of(n: u8) -> BitDepth {
+    match n {
+        0 => BitDepth::Depth8,
+        1 => BitDepth::Depth10,
+        _ => BitDepth::Depth12,
+    }
+}
+
+fn range_of(full: bool) -> ColorRange {
+    if full {
+        ColorRange::FullSwing
+    } else {
+        ColorRange::StudioSwing
+    }
+}
+
+fn state_of(s: &[u8]) -> ReaderState {
+    ReaderState {
+        bit_depth: depth_of(byte_at(s, 0)),
+        subsampling_x: flag_at(s, 1),
+        subsampling_y: flag_at(s, 2),
+        color_space: ColorSpace::of_three_bits((byte_at(s, 3) % 8) as u32),
+        color_range: range_of(flag_at(s, 4)),
+        lf: loop_filter_of(rest(s, 5)),
+        seg: segmentation_of(rest(s, 27)),
+        reference_frame_sz: slots_of(rest(s, 170)),
+    }
+}
+
+// The records of the input. What a record holds stands at the buffer's start.
 enum Record {
     Fresh,
-    Chunk(usize),
+    // A chunk of so many bytes.
+    Chunk(usize, Work),
+    State,
     End,
 }
 
@@ -387,15 +628,37 @@ fn read_number() -> Little {
     coded::read_little(&b, 0, 4)
 }
 
-fn read_chunk(buf: &mut [u8]) -> Record {
+fn read_chunk(buf: &mut [u8], work: Work) -> Record {
     let Little::Value(n) = read_number() else {
         return Record::End;
     };
     if read_data(buf, n as usize) {
-        Record::Chunk(n as usize)
+        Record::Chunk(n as usize, work)
     } else {
         Record::End
     }
+}
+
+fn read_state(buf: &mut [u8]) -> Record {
+    if read_data(buf, 234) {
+        Record::State
+    } else {
+        Record::End
+    }
+}
+
+fn read_parses(buf: &mut [u8]) -> Record {
+    let Little::Value(n) = read_number() else {
+        return Record::End;
+    };
+    read_chunk(buf, Work::Parses(n))
+}
+
+fn read_steps(buf: &mut [u8]) -> Record {
+    let Little::Value(n) = read_number() else {
+        return Record::End;
+    };
+    read_chunk(buf, Work::Steps(n))
 }
 
 // Where the input ends, the kind stays 255.
@@ -404,7 +667,10 @@ fn read_record(buf: &mut [u8]) -> Record {
     io::read_full(STDIN_FILENO, &mut kind);
     match kind[0] {
         0 => Record::Fresh,
-        1 => read_chunk(buf),
+        1 => read_chunk(buf, Work::Answer),
+        3 => read_state(buf),
+        4 => read_parses(buf),
+        5 => read_steps(buf),
         _ => Record::End,
     }
 }
@@ -418,9 +684,15 @@ fn front(s: &[u8], n: usize) -> &[u8] {
     &s[start..n]
 }
 
+fn with_state(state: ReaderState, series: Series) -> Series {
+    let segments = series.segments;
+    Series { state, segments }
+}
+
 fn after_record(record: Record, buf: &[u8], series: Series) -> Series {
     match record {
-        Record::Chunk(n) => answer_chunk(front(buf, n), series),
+        Record::Chunk(n, work) => answer_chunk(front(buf, n), work, series),
+        Record::State => with_state(state_of(buf), series),
         _ => fresh(),
     }
 }

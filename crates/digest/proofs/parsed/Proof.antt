@@ -1,0 +1,49 @@
+-- `digest::parsed` is safe and ends: the measure is the number of parses that are left.
+use borrow.Author.Needs.{needs}
+use Rattle.digest.proofs.parsed.Statement.{statement}
+use Rattle.digest.proofs.parsed.Tie as tie
+
+abbrev Inv-loop : tie.InvT-loop
+Inv-loop s st n state₀ left₀ state left = Unit {0}
+
+abbrev μ-loop : tie.MeasureT-loop
+μ-loop s st n state₀ left₀ state left = left
+
+loop-holds : tie.Need-loop-holds Inv-loop μ-loop
+loop-holds c = search needs
+
+parse-chunk-requires : tie.Need-parse-chunk-requires Inv-loop μ-loop
+parse-chunk-requires c κs = search needs
+
+returns : tie.Need-returns Inv-loop μ-loop
+returns c = search needs
+
+sub-left : tie.Need-sub-left Inv-loop μ-loop
+sub-left c = search needs
+
+loop-less : tie.Need-loop-less Inv-loop μ-loop
+loop-less c = search needs
+
+loop-again : tie.Need-loop-again Inv-loop μ-loop
+loop-again c = search needs
+
+no-frames-requires : tie.Need-no-frames-requires Inv-loop μ-loop
+no-frames-requires c κs = search needs
+
+returns-2 : tie.Need-returns-2 Inv-loop μ-loop
+returns-2 c = search needs
+
+pub parsed-spec : {M : Type 1} → statement M
+parsed-spec =
+    tie.close
+    (tie.spec
+    Inv-loop
+    μ-loop
+    loop-holds
+    parse-chunk-requires
+    returns
+    sub-left
+    loop-less
+    loop-again
+    no-frames-requires
+    returns-2)
