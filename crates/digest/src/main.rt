@@ -297,25 +297,52 @@ fn which(answer: Answer) -> usize {
     }
 }
 
-fn put_next(out: &mut [u8], at: usize, n: u64) -> usize {
-    let next = text::put(out, at, b" ");
-    text::put_number(out, next, n)
+fn places(n: u64) -> usize
+    ensures { λ r. ⌜ r ≤ 20 ⌝ }
+{
+    let mut left = n;
+    for k in 1..20usize {
+        left = left / 10;
+        if left == 0 {
+            return k;
+        }
+    }
+    20
 }
 
-fn put_line(
-    out: &mut [u8],
-    at: usize,
-    answer: Answer,
-    frames: u32,
-    segments: u32,
-    state: u32,
-) -> usize {
-    let at = text::put_number(out, at, answer.number() as u64);
-    let at = put_next(out, at, which(answer) as u64);
-    let at = put_next(out, at, frames as u64);
-    let at = put_next(out, at, segments as u64);
-    let at = put_next(out, at, state as u64);
-    text::put(out, at, b"\n")
+fn digit(n: u64) -> u8 {
+    (48 + n % 10) as u8
+}
+
+// The number's digits and a byte after them. Written here, since text::put_number takes a third of a line's time under the emulator.
+fn put(out: &mut [u8], at: usize, n: u64, end: u8) -> usize {
+    let k = places(n);
+    if at > out.len() {
+        return at;
+    }
+    if k >= out.len() - at {
+        return at;
+    }
+    let mut left = n;
+    for i in 0..k {
+        out[at + (k - 1 - i)] = digit(left);
+        left = left / 10;
+    }
+    out[at + k] = end;
+    at + k + 1
+}
+
+fn put_answer(out: &mut [u8], at: usize, answer: Answer) -> usize {
+    let at = put(out, at, answer.number() as u64, b' ');
+    put(out, at, which(answer) as u64, b' ')
+}
+
+fn put_line(out: &mut [u8], at: usize, told: Told) -> usize {
+    let answer = told.answer;
+    let at = put_answer(out, at, answer);
+    let at = put(out, at, told.frames as u64, b' ');
+    let at = put(out, at, told.segments as u64, b' ');
+    put(out, at, told.state as u64, b'\n')
 }
 
 // The answers.
@@ -348,32 +375,7 @@ fn parses(work: Work) -> u64 {
     }
 }
 
-fn no_frames(state: ReaderState) -> ChunkRead {
-    ChunkRead {
-        answer: Answer::Frames(0),
-        at: [0usize; MAX_FRAMES_IN_SUPERFRAME],
-        size: [0usize; MAX_FRAMES_IN_SUPERFRAME],
-        headers: [Header::default(); MAX_FRAMES_IN_SUPERFRAME],
-        state,
-    }
-}
-
-// The last of n parses, each under the state that the one before it left, so that none can be left out.
-fn parsed(s: &[u8], st: ReaderState, n: u64) -> ChunkRead {
-    let mut state = st;
-    let mut left = n;
-    while left > 0 {
-        let read = chunk::parse_chunk(s, state);
-        if left == 1 {
-            return read;
-        }
-        let after = read.state;
-        state = after;
-        left -= 1;
-    }
-    no_frames(st)
-}
-
+// The records after n steps.
 fn stepped(header: Header, old: [Segmentation; 8], n: u64) -> [Segmentation; 8] {
     let mut new = old;
     for _ in 0..n {
@@ -383,18 +385,29 @@ fn stepped(header: Header, old: [Segmentation; 8], n: u64) -> [Segmentation; 8] 
     new
 }
 
-// What there is to say of a chunk.
+// The records that are told.
+fn last_records(
+    work: Work,
+    header: Header,
+    old: [Segmentation; 8],
+    new: [Segmentation; 8],
+) -> [Segmentation; 8] {
+    match work {
+        Work::Steps(n) => stepped(header, old, n),
+        _ => new,
+    }
+}
+
+// What the line of a chunk says, and what is remembered after it.
 struct Told {
     answer: Answer,
     frames: u32,
-    // The first frame's, or a default one.
-    header: Header,
-    segments: [Segmentation; 8],
-    state: ReaderState,
+    segments: u32,
+    state: u32,
+    after: Series,
 }
 
-fn tell(s: &[u8], n: u64, st: ReaderState, old: [Segmentation; 8]) -> Told {
-    let read = parsed(s, st, n);
+fn tell(read: ChunkRead, work: Work, old: [Segmentation; 8]) -> Told {
     let answer = read.answer;
     let mut fold = Fold {
         digest: 0,
@@ -405,25 +418,49 @@ fn tell(s: &[u8], n: u64, st: ReaderState, old: [Segmentation; 8]) -> Told {
         let header = read.headers[i];
         fold = with_frame(read.at[i], read.size[i], header, fold);
     }
-    let header = read.headers[0];
     let new = fold.segments;
+    let last = last_records(work, read.headers[0], old, new);
     let state = read.state;
+    let after = Series {
+        state,
+        segments: new,
+    };
     Told {
         answer,
         frames: fold.digest,
-        header,
-        segments: new,
-        state,
+        segments: segments(0, last),
+        state: state_digest(state),
+        after,
     }
 }
 
-// The records of which the line has the digest.
-fn last_records(work: Work, told: Told, old: [Segmentation; 8]) -> [Segmentation; 8] {
-    let new = told.segments;
-    match work {
-        Work::Steps(n) => stepped(told.header, old, n),
-        _ => new,
+fn tell_nothing(series: Series) -> Told {
+    let state = series.state;
+    let old = series.segments;
+    Told {
+        answer: Answer::Frames(0),
+        frames: 0,
+        segments: segments(0, old),
+        state: state_digest(state),
+        after: series,
     }
+}
+
+// The last parse is told. Each goes from the state that the one before it left, so that none can be left out.
+fn tell_last(s: &[u8], work: Work, series: Series) -> Told {
+    let old = series.segments;
+    let mut state = series.state;
+    let mut left = parses(work);
+    while left > 0 {
+        let read = chunk::parse_chunk(s, state);
+        if left == 1 {
+            return tell(read, work, old);
+        }
+        let after = read.state;
+        state = after;
+        left -= 1;
+    }
+    tell_nothing(series)
 }
 
 // The state that 234 bytes spell.
@@ -804,31 +841,20 @@ struct After {
     series: Series,
 }
 
-fn answer_chunk(s: &[u8], work: Work, out: &mut [u8], run: Run, series: Series) -> After {
-    let old = series.segments;
-    let told = tell(s, parses(work), series.state, old);
-    let last = last_records(work, told, old);
-    let answer = told.answer;
-    let at = put_line(
-        out,
-        run.at,
-        answer,
-        told.frames,
-        segments(0, last),
-        state_digest(told.state),
-    );
-    After {
-        run: run.written(at),
-        series: kept(work, told, series),
+fn kept(work: Work, told: Told, series: Series) -> Series {
+    let after = told.after;
+    match work {
+        Work::Answer => after,
+        _ => series,
     }
 }
 
-fn kept(work: Work, told: Told, series: Series) -> Series {
-    let state = told.state;
-    let segments = told.segments;
-    match work {
-        Work::Answer => Series { state, segments },
-        _ => series,
+fn answer_chunk(s: &[u8], work: Work, out: &mut [u8], run: Run, series: Series) -> After {
+    let told = tell_last(s, work, series);
+    let at = put_line(out, run.at, told);
+    After {
+        run: run.written(at),
+        series: kept(work, told, series),
     }
 }
 

@@ -5,13 +5,10 @@ use Rattle.digest.proofs.tell.Statement.{statement}
 use Rattle.digest.proofs.tell.Tie as tie
 
 abbrev Inv-loop : tie.InvT-loop
-Inv-loop s n read answer fold₀ frames i₀ fold i = (i ≤ frames) × (frames ≤ 8)
+Inv-loop work old read answer fold₀ frames i₀ fold i = (i ≤ frames) × (frames ≤ 8)
 
 abbrev μ-loop : tie.MeasureT-loop
-μ-loop s n read answer fold₀ frames i₀ fold i = frames - i
-
-parsed-requires : tie.Need-parsed-requires Inv-loop μ-loop
-parsed-requires c κs = search needs
+μ-loop work old read answer fold₀ frames i₀ fold i = frames - i
 
 frames-of-requires : tie.Need-frames-of-requires Inv-loop μ-loop
 frames-of-requires c κs = search needs
@@ -49,8 +46,17 @@ loop-less c = search needs
 loop-again : tie.Need-loop-again Inv-loop μ-loop
 loop-again c = search needs
 
-element-copy-out-header-2 : tie.Need-element-copy-out-header-2 Inv-loop μ-loop
-element-copy-out-header-2 c = search needs
+element-copy-out-last-records : tie.Need-element-copy-out-last-records Inv-loop μ-loop
+element-copy-out-last-records c = search needs
+
+last-records-requires : tie.Need-last-records-requires Inv-loop μ-loop
+last-records-requires c κs = search needs
+
+segments-requires : tie.Need-segments-requires Inv-loop μ-loop
+segments-requires c κs = search needs
+
+state-digest-requires : tie.Need-state-digest-requires Inv-loop μ-loop
+state-digest-requires c κs = search needs
 
 returns : tie.Need-returns Inv-loop μ-loop
 returns c = search needs
@@ -61,7 +67,6 @@ tell-spec =
     (tie.spec
     Inv-loop
     μ-loop
-    parsed-requires
     frames-of-requires
     loop-holds
     mul-header
@@ -74,5 +79,8 @@ tell-spec =
     add-i
     loop-less
     loop-again
-    element-copy-out-header-2
+    element-copy-out-last-records
+    last-records-requires
+    segments-requires
+    state-digest-requires
     returns)
