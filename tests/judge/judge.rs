@@ -59,10 +59,11 @@ mod stub {
 }
 
 use codec::vp9::parser::{
-    Frame, FrameType, Header, LoopFilterParams, Parser, QuantizationParams, Segmentation, SegmentationParams,
+    FrameType, Header, LoopFilterParams, Parser, QuantizationParams, Segmentation, SegmentationParams,
     MAX_SEGMENTS,
 };
 use std::fmt;
+use std::hint::black_box;
 use std::io::{self, BufRead, BufWriter, Read, Write};
 use std::panic::{catch_unwind, AssertUnwindSafe};
 
@@ -457,6 +458,12 @@ impl Digest {
         }
     }
 
+    fn of_segments(segments: &Segments) -> Digest {
+        let mut digest = Digest::default();
+        digest.segments(segments);
+        digest
+    }
+
     fn frame(&mut self, seen: &Seen) {
         self.numbers([seen.offset as u64, seen.size as u64]);
         self.header(&seen.header);
@@ -542,25 +549,56 @@ struct Digested {
 
 impl Digested {
     fn of(memory: Memory) -> Self {
-        let mut segments = Digest::default();
-        segments.segments(&memory.segments);
+        let segments = Digest::of_segments(&memory.segments);
         let state = StateDigest::of(&memory.parser);
         Digested { memory, segments, state }
     }
 
-    /// Prints the line of a chunk and remembers what it changes.
-    fn answer(&mut self, out: &mut impl Write, chunk: &[u8]) -> io::Result<()> {
+    /// Reads a chunk and remembers what it changes. Answers the line's first three words, and the first header.
+    fn read(&mut self, chunk: &[u8]) -> (String, Header) {
         match judge(&mut self.memory, chunk) {
             Verdict::Accepted(frames) => {
                 let mut digest = Digest::default();
                 frames.iter().for_each(|seen| digest.frame(seen));
                 *self = Digested::of(std::mem::take(&mut self.memory));
-                write!(out, "0 {} {}", frames.len(), digest.0)?;
+                let words = format!("0 {} {}", frames.len(), digest.0);
+                (words, frames.into_iter().next().map(|seen| seen.header).unwrap_or_default())
             }
             // The Rust has no numbers, so neither is known here.
-            _ => write!(out, "? ? 0")?,
+            _ => (String::from("? ? 0"), Header::default()),
         }
-        writeln!(out, " {} {}", self.segments.0, self.state.0)
+    }
+
+    fn print(&self, out: &mut impl Write, words: &str) -> io::Result<()> {
+        writeln!(out, "{} {} {}", words, self.segments.0, self.state.0)
+    }
+
+    fn answer(&mut self, out: &mut impl Write, chunk: &[u8]) -> io::Result<()> {
+        let (words, _) = self.read(chunk);
+        self.print(out, &words)
+    }
+
+    /// Parses the chunk n times, as a caller does, and answers the last time.
+    fn answer_parses(mut self, out: &mut impl Write, chunk: &[u8], n: u32) -> io::Result<()> {
+        if n == 0 {
+            return self.print(out, "0 0 0");
+        }
+        let parser = &mut self.memory.parser;
+        let _ = catch_unwind(AssertUnwindSafe(|| {
+            (1..n).for_each(|_| drop(black_box(parser.parse_chunk(black_box(chunk)))));
+        }));
+        self.answer(out, chunk)
+    }
+
+    /// Answers the chunk with the records that n steps on its first header leave.
+    fn answer_steps(mut self, out: &mut impl Write, chunk: &[u8], n: u32) -> io::Result<()> {
+        let mut segments = self.memory.segments.clone();
+        let (words, header) = self.read(chunk);
+        for _ in 0..n {
+            Segmentation::update_segmentation(black_box(&mut segments), black_box(&header));
+        }
+        self.segments = Digest::of_segments(&segments);
+        self.print(out, &words)
     }
 }
 
@@ -599,6 +637,16 @@ fn digest_record(
         1 => {
             read_data(input, chunk)?;
             carried.answer(out, chunk)?;
+        }
+        kind @ (4 | 5) => {
+            let count = read_number(input)?;
+            read_data(input, chunk)?;
+            let copy = carried.clone();
+            if kind == 4 {
+                copy.answer_parses(out, chunk, count)?;
+            } else {
+                copy.answer_steps(out, chunk, count)?;
+            }
         }
         3 => return Err(io::Error::new(io::ErrorKind::Unsupported, "record 3: the Rust's state is private")),
         _ => return Err(ended()),

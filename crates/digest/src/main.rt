@@ -1,6 +1,8 @@
 // Answers chunks by a line of digests each, for the runs that put millions of them, and for the benchmark of a parse and of a segment step.
 // tests/reader/DIGEST.md says what is read and what is printed.
 ghost use Prim.Native.Nat.{_≤_};
+ghost use mathlib.Core.Path.{_≡_};
+ghost use lib.ListN.{length};
 use chunk::Answer;
 use chunk::ChunkRead;
 use coded::Little;
@@ -285,23 +287,6 @@ fn frames_of(answer: Answer) -> usize
     }
 }
 
-fn fold_frames(read: ChunkRead, old: [Segmentation; 8]) -> Fold {
-    let answer = read.answer;
-    let places = read.at;
-    let sizes = read.size;
-    let headers = read.headers;
-    let mut fold = Fold {
-        digest: 0,
-        segments: old,
-    };
-    let n = frames_of(answer);
-    for i in 0..n {
-        let header = headers[i];
-        fold = with_frame(places[i], sizes[i], header, fold);
-    }
-    fold
-}
-
 // The line.
 
 // How many frames, or which one is at fault.
@@ -312,33 +297,52 @@ fn which(answer: Answer) -> usize {
     }
 }
 
-fn put_next(out: &mut [u8], at: usize, n: u64) -> usize {
-    let next = text::put(out, at, b" ");
-    text::put_number(out, next, n)
-}
-
-fn put_line(out: &mut [u8], answer: Answer, frames: u32, segments: u32, state: u32) -> usize {
-    let at = text::put_number(out, 0, answer.number() as u64);
-    let at = put_next(out, at, which(answer) as u64);
-    let at = put_next(out, at, frames as u64);
-    let at = put_next(out, at, segments as u64);
-    let at = put_next(out, at, state as u64);
-    text::put(out, at, b"\n")
-}
-
-// Writes the first n bytes.
-fn write_text(out: &[u8], n: usize) {
-    if n > out.len() {
-        return;
+fn places(n: u64) -> usize
+    ensures { λ r. ⌜ r ≤ 20 ⌝ }
+{
+    let mut left = n;
+    for k in 1..20usize {
+        left = left / 10;
+        if left == 0 {
+            return k;
+        }
     }
-    let start = 0;
-    io::write_all(STDOUT_FILENO, &out[start..n]);
+    20
 }
 
-fn print_line(answer: Answer, frames: u32, segments: u32, state: u32) {
-    let mut out = [0u8; 64];
-    let n = put_line(&mut out, answer, frames, segments, state);
-    write_text(&out, n);
+fn digit(n: u64) -> u8 {
+    (48 + n % 10) as u8
+}
+
+// The number's digits and a byte after them. Written here, since text::put_number takes a third of a line's time under the emulator.
+fn put(out: &mut [u8], at: usize, n: u64, end: u8) -> usize {
+    let k = places(n);
+    if at > out.len() {
+        return at;
+    }
+    if k >= out.len() - at {
+        return at;
+    }
+    let mut left = n;
+    for i in 0..k {
+        out[at + (k - 1 - i)] = digit(left);
+        left = left / 10;
+    }
+    out[at + k] = end;
+    at + k + 1
+}
+
+fn put_answer(out: &mut [u8], at: usize, answer: Answer) -> usize {
+    let at = put(out, at, answer.number() as u64, b' ');
+    put(out, at, which(answer) as u64, b' ')
+}
+
+fn put_line(out: &mut [u8], at: usize, told: Told) -> usize {
+    let answer = told.answer;
+    let at = put_answer(out, at, answer);
+    let at = put(out, at, told.frames as u64, b' ');
+    let at = put(out, at, told.segments as u64, b' ');
+    put(out, at, told.state as u64, b'\n')
 }
 
 // The answers.
@@ -371,32 +375,7 @@ fn parses(work: Work) -> u64 {
     }
 }
 
-fn no_frames(state: ReaderState) -> ChunkRead {
-    ChunkRead {
-        answer: Answer::Frames(0),
-        at: [0usize; MAX_FRAMES_IN_SUPERFRAME],
-        size: [0usize; MAX_FRAMES_IN_SUPERFRAME],
-        headers: [Header::default(); MAX_FRAMES_IN_SUPERFRAME],
-        state,
-    }
-}
-
-// The last of n parses, each under the state that the one before it left, so that none can be left out.
-fn parsed(s: &[u8], st: ReaderState, n: u64) -> ChunkRead {
-    let mut state = st;
-    let mut left = n;
-    while left > 0 {
-        let read = chunk::parse_chunk(s, state);
-        if left == 1 {
-            return read;
-        }
-        let after = read.state;
-        state = after;
-        left -= 1;
-    }
-    no_frames(st)
-}
-
+// The records after n steps.
 fn stepped(header: Header, old: [Segmentation; 8], n: u64) -> [Segmentation; 8] {
     let mut new = old;
     for _ in 0..n {
@@ -406,8 +385,8 @@ fn stepped(header: Header, old: [Segmentation; 8], n: u64) -> [Segmentation; 8] 
     new
 }
 
-// The records that are printed.
-fn records(
+// The records that are told.
+fn last_records(
     work: Work,
     header: Header,
     old: [Segmentation; 8],
@@ -419,22 +398,69 @@ fn records(
     }
 }
 
-fn answer_chunk(s: &[u8], work: Work, series: Series) -> Series {
-    let read = parsed(s, series.state, parses(work));
-    let old = series.segments;
-    let fold = fold_frames(read, old);
-    let new = fold.segments;
-    let last = records(work, read.headers[0], old, new);
-    let state = read.state;
+// What the line of a chunk says, and what is remembered after it.
+struct Told {
+    answer: Answer,
+    frames: u32,
+    segments: u32,
+    state: u32,
+    after: Series,
+}
+
+fn tell(read: ChunkRead, work: Work, old: [Segmentation; 8]) -> Told {
     let answer = read.answer;
-    print_line(answer, fold.digest, segments(0, last), state_digest(state));
-    match work {
-        Work::Answer => Series {
-            state,
-            segments: new,
-        },
-        _ => series,
+    let mut fold = Fold {
+        digest: 0,
+        segments: old,
+    };
+    let frames = frames_of(answer);
+    for i in 0..frames {
+        let header = read.headers[i];
+        fold = with_frame(read.at[i], read.size[i], header, fold);
     }
+    let new = fold.segments;
+    let last = last_records(work, read.headers[0], old, new);
+    let state = read.state;
+    let after = Series {
+        state,
+        segments: new,
+    };
+    Told {
+        answer,
+        frames: fold.digest,
+        segments: segments(0, last),
+        state: state_digest(state),
+        after,
+    }
+}
+
+fn tell_nothing(series: Series) -> Told {
+    let state = series.state;
+    let old = series.segments;
+    Told {
+        answer: Answer::Frames(0),
+        frames: 0,
+        segments: segments(0, old),
+        state: state_digest(state),
+        after: series,
+    }
+}
+
+// The last parse is told. Each goes from the state that the one before it left, so that none can be left out.
+fn tell_last(s: &[u8], work: Work, series: Series) -> Told {
+    let old = series.segments;
+    let mut state = series.state;
+    let mut left = parses(work);
+    while left > 0 {
+        let read = chunk::parse_chunk(s, state);
+        if left == 1 {
+            return tell(read, work, old);
+        }
+        let after = read.state;
+        state = after;
+        left -= 1;
+    }
+    tell_nothing(series)
 }
 
 // The state that 234 bytes spell.
@@ -600,79 +626,204 @@ fn state_of(s: &[u8]) -> ReaderState {
     }
 }
 
-// The records of the input. What a record holds stands at the buffer's start.
+// The records of the input.
+
 enum Record {
     Fresh,
-    // A chunk of so many bytes.
-    Chunk(usize, Work),
+    // A chunk: its place from the record's start, its size, and what is done with it.
+    Chunk(usize, usize, Work),
     State,
     End,
 }
 
-// Reads n bytes to the buffer's start, and answers whether they were there.
-fn read_data(buf: &mut [u8], n: usize) -> bool {
-    if n > buf.len() {
+const LONGEST_CHUNK: usize = 65536;
+
+// A chunk at a place, with its length at another.
+fn chunk_at(s: &[u8], length_at: usize, at: usize, work: Work) -> Record {
+    let Little::Value(n) = coded::read_little(s, length_at, 4) else {
+        return Record::End;
+    };
+    let size = n as usize;
+    if size > LONGEST_CHUNK {
+        return Record::End;
+    }
+    if size > rest(s, at).len() {
+        return Record::End;
+    }
+    Record::Chunk(at, size, work)
+}
+
+fn parses_at(s: &[u8]) -> Record {
+    let Little::Value(n) = coded::read_little(s, 1, 4) else {
+        return Record::End;
+    };
+    chunk_at(s, 5, 9, Work::Parses(n))
+}
+
+fn steps_at(s: &[u8]) -> Record {
+    let Little::Value(n) = coded::read_little(s, 1, 4) else {
+        return Record::End;
+    };
+    chunk_at(s, 5, 9, Work::Steps(n))
+}
+
+fn state_at(s: &[u8]) -> Record {
+    if s.len() < 235 {
+        Record::End
+    } else {
+        Record::State
+    }
+}
+
+// The record at the start of what is at hand.
+fn next_record(s: &[u8]) -> Record {
+    if s.len() == 0 {
+        return Record::End;
+    }
+    match s[0] {
+        0 => Record::Fresh,
+        1 => chunk_at(s, 1, 5, Work::Answer),
+        3 => state_at(s),
+        4 => parses_at(s),
+        5 => steps_at(s),
+        _ => Record::End,
+    }
+}
+
+// What is read and not used yet lies in the input buffer from `start` to `end`, and the lines that are not written yet at the front of the
+// output buffer, up to `at`.
+struct Run {
+    start: usize,
+    end: usize,
+    // Nothing follows it.
+    ended: bool,
+    at: usize,
+    going: bool,
+}
+
+// The place n bytes on, which is never past the end.
+fn forward(at: usize, end: usize, n: usize) -> usize {
+    if at > end {
+        return end;
+    }
+    if n > end - at {
+        return end;
+    }
+    at + n
+}
+
+impl Run {
+    fn new() -> Run {
+        Run {
+            start: 0,
+            end: 0,
+            ended: false,
+            at: 0,
+            going: true,
+        }
+    }
+
+    fn at_hand(self) -> usize {
+        let start = self.start;
+        let end = self.end;
+        if start < end { end - start } else { 0 }
+    }
+
+    // So many bytes before a record's data are passed, and the data.
+    fn passed(mut self, head: usize, size: usize) -> Run {
+        self.start = forward(forward(self.start, self.end, head), self.end, size);
+        self
+    }
+
+    fn written(mut self, at: usize) -> Run {
+        self.at = at;
+        self
+    }
+
+    fn stopped(mut self) -> Run {
+        self.going = false;
+        self
+    }
+}
+
+// Moves the bytes from `start` to `end` to the front, and answers how many there are.
+fn to_front(input: &mut [u8], start: usize, end: usize) -> usize {
+    if end > input.len() {
+        return 0;
+    }
+    if start > end {
+        return 0;
+    }
+    let n = end - start;
+    for i in 0..n {
+        input[i] = input[start + i];
+    }
+    n
+}
+
+// Fills the buffer. The input has ended where it doesn't get full.
+fn refilled(input: &mut [u8], run: Run) -> Run {
+    let mut next = run;
+    let n = to_front(input, run.start, run.end);
+    if n > input.len() {
+        return next;
+    }
+    let got = io::read_full(STDIN_FILENO, &mut input[n..]);
+    next.start = 0;
+    next.end = n + got;
+    next.ended = n + got < input.len();
+    next
+}
+
+// No record is longer.
+const LONGEST_RECORD: usize = 9 + LONGEST_CHUNK;
+
+fn filled(input: &mut [u8], run: Run) -> Run {
+    if run.ended {
+        return run;
+    }
+    if run.at_hand() >= LONGEST_RECORD {
+        return run;
+    }
+    refilled(input, run)
+}
+
+// No line is longer.
+const LONGEST_LINE: usize = 64;
+
+// Writes the first n bytes, and answers whether they went out.
+fn write_text(out: &[u8], n: usize) -> bool {
+    if n > out.len() {
         return false;
     }
     let start = 0;
-    let got = io::read_full(STDIN_FILENO, &mut buf[start..n]);
-    got == n
+    io::write_all(STDOUT_FILENO, &out[start..n])
 }
 
-fn read_number() -> Little {
-    let mut b = [0u8; 4];
-    let got = io::read_full(STDIN_FILENO, &mut b);
-    if got < 4 {
-        return Little::Short;
+// Writes where there may be no room for the next line. A write that fails ends it.
+fn flushed(out: &[u8], run: Run) -> Run {
+    let mut next = run;
+    let at = run.at;
+    if at < out.len() {
+        if out.len() - at >= LONGEST_LINE {
+            return next;
+        }
     }
-    coded::read_little(&b, 0, 4)
+    next.going = write_text(out, at);
+    next.at = 0;
+    next
 }
 
-fn read_chunk(buf: &mut [u8], work: Work) -> Record {
-    let Little::Value(n) = read_number() else {
-        return Record::End;
-    };
-    if read_data(buf, n as usize) {
-        Record::Chunk(n as usize, work)
-    } else {
-        Record::End
+fn unused(input: &[u8], run: Run) -> &[u8] {
+    let start = run.start;
+    let end = run.end;
+    if end > input.len() {
+        return input;
     }
-}
-
-fn read_state(buf: &mut [u8]) -> Record {
-    if read_data(buf, 234) {
-        Record::State
-    } else {
-        Record::End
+    if start > end {
+        return input;
     }
-}
-
-fn read_parses(buf: &mut [u8]) -> Record {
-    let Little::Value(n) = read_number() else {
-        return Record::End;
-    };
-    read_chunk(buf, Work::Parses(n))
-}
-
-fn read_steps(buf: &mut [u8]) -> Record {
-    let Little::Value(n) = read_number() else {
-        return Record::End;
-    };
-    read_chunk(buf, Work::Steps(n))
-}
-
-// Where the input ends, the kind stays 255.
-fn read_record(buf: &mut [u8]) -> Record {
-    let mut kind = [255u8; 1];
-    io::read_full(STDIN_FILENO, &mut kind);
-    match kind[0] {
-        0 => Record::Fresh,
-        1 => read_chunk(buf, Work::Answer),
-        3 => read_state(buf),
-        4 => read_parses(buf),
-        5 => read_steps(buf),
-        _ => Record::End,
-    }
+    &input[start..end]
 }
 
 // The first n bytes. There are never fewer.
@@ -684,37 +835,90 @@ fn front(s: &[u8], n: usize) -> &[u8] {
     &s[start..n]
 }
 
+// After a turn.
+struct After {
+    run: Run,
+    series: Series,
+}
+
+fn kept(work: Work, told: Told, series: Series) -> Series {
+    let after = told.after;
+    match work {
+        Work::Answer => after,
+        _ => series,
+    }
+}
+
+fn answer_chunk(s: &[u8], work: Work, out: &mut [u8], run: Run, series: Series) -> After {
+    let told = tell_last(s, work, series);
+    let at = put_line(out, run.at, told);
+    After {
+        run: run.written(at),
+        series: kept(work, told, series),
+    }
+}
+
 fn with_state(state: ReaderState, series: Series) -> Series {
     let segments = series.segments;
     Series { state, segments }
 }
 
-fn after_record(record: Record, buf: &[u8], series: Series) -> Series {
+// What stands next in the input.
+fn step(s: &[u8], out: &mut [u8], run: Run, series: Series) -> After {
+    let record = next_record(s);
     match record {
-        Record::Chunk(n, work) => answer_chunk(front(buf, n), work, series),
-        Record::State => with_state(state_of(buf), series),
-        _ => fresh(),
+        Record::Chunk(at, size, work) => answer_chunk(
+            front(rest(s, at), size),
+            work,
+            out,
+            run.passed(at, size),
+            series,
+        ),
+        Record::State => After {
+            run: run.passed(1, 234),
+            series: with_state(state_of(rest(s, 1)), series),
+        },
+        Record::Fresh => After {
+            run: run.passed(1, 0),
+            series: fresh(),
+        },
+        Record::End => After {
+            run: run.stopped(),
+            series,
+        },
     }
 }
 
-fn is_last(record: Record) -> bool {
-    match record {
-        Record::End => true,
-        _ => false,
-    }
+fn turn(input: &mut [u8], out: &mut [u8], before: Run, series: Series) -> After {
+    let run = flushed(out, filled(input, before));
+    step(unused(input, run), out, run, series)
 }
 
-// Nothing says that the input ends, so the records are counted down.
-fn main() {
-    let mut buf = io::large_buffer();
+// Nothing says that the input ends, so the turns are counted down.
+fn answer_all(input: &mut [u8], out: &mut [u8]) {
+    let mut run = Run::new();
     let mut series = fresh();
     let mut left = u64::MAX;
-    while left > 0 {
-        let record = read_record(&mut buf);
-        if is_last(record) {
-            return;
-        }
-        series = after_record(record, &buf, series);
+    while left > 0 && run.going {
+        let after = turn(input, out, run, series);
+        let next_run = after.run;
+        let next_series = after.series;
+        run = next_run;
+        series = next_series;
         left -= 1;
     }
+    write_text(out, run.at);
+}
+
+// Four times what a record may take, so that most of each read is new.
+fn input_buffer() -> [u8; 262144]
+    ensures { λ r. ⌜ 262144 ≡ length r ⌝ }
+{
+    [0; 262144]
+}
+
+fn main() {
+    let mut input = input_buffer();
+    let mut out = io::large_buffer();
+    answer_all(&mut input, &mut out);
 }

@@ -1,19 +1,25 @@
--- `digest::parsed` is safe and ends: the measure is the number of parses that are left.
+-- `digest::tell_last` is safe and ends: the measure is the number of parses that are left.
 use borrow.Author.Needs.{needs}
-use Rattle.digest.proofs.parsed.Statement.{statement}
-use Rattle.digest.proofs.parsed.Tie as tie
+use Rattle.digest.proofs.tell_last.Statement.{statement}
+use Rattle.digest.proofs.tell_last.Tie as tie
 
 abbrev Inv-loop : tie.InvT-loop
-Inv-loop s st n state₀ left₀ state left = Unit {0}
+Inv-loop s work series old state₀ left₀ state left = Unit {0}
 
 abbrev μ-loop : tie.MeasureT-loop
-μ-loop s st n state₀ left₀ state left = left
+μ-loop s work series old state₀ left₀ state left = left
+
+parses-requires : tie.Need-parses-requires Inv-loop μ-loop
+parses-requires c κs = search needs
 
 loop-holds : tie.Need-loop-holds Inv-loop μ-loop
 loop-holds c = search needs
 
 parse-chunk-requires : tie.Need-parse-chunk-requires Inv-loop μ-loop
 parse-chunk-requires c κs = search needs
+
+tell-requires : tie.Need-tell-requires Inv-loop μ-loop
+tell-requires c κs = search needs
 
 returns : tie.Need-returns Inv-loop μ-loop
 returns c = search needs
@@ -27,23 +33,25 @@ loop-less c = search needs
 loop-again : tie.Need-loop-again Inv-loop μ-loop
 loop-again c = search needs
 
-no-frames-requires : tie.Need-no-frames-requires Inv-loop μ-loop
-no-frames-requires c κs = search needs
+tell-nothing-requires : tie.Need-tell-nothing-requires Inv-loop μ-loop
+tell-nothing-requires c κs = search needs
 
 returns-2 : tie.Need-returns-2 Inv-loop μ-loop
 returns-2 c = search needs
 
-pub parsed-spec : {M : Type 1} → statement M
-parsed-spec =
+pub tell-last-spec : {M : Type 1} → statement M
+tell-last-spec =
     tie.close
     (tie.spec
     Inv-loop
     μ-loop
+    parses-requires
     loop-holds
     parse-chunk-requires
+    tell-requires
     returns
     sub-left
     loop-less
     loop-again
-    no-frames-requires
+    tell-nothing-requires
     returns-2)
