@@ -6,9 +6,8 @@ import tempfile
 
 import chunks
 from chunks import PARSES, STEPS
-from machine import HERE, ROOT, seconds
+from machine import ROOT, seconds
 
-ORIGINAL = os.path.join(HERE, "original.rs")
 JUDGE = os.path.join(ROOT, "tests", "judge", "judge.rs")
 # How often each chunk is parsed, and each header stepped, so that a run takes about a second.
 TURNS = {PARSES: 1000, STEPS: 4000}
@@ -50,7 +49,7 @@ def counted(machine, title, what, runs):
     series = [chunks_of_one for _, chunks_of_one in chunks.recordings()]
     head(title, "", "The Rust", "Here")
     given = b"".join(chunks.each(what, TURNS[what], one) for one in series)
-    return compare("all recordings", TURNS[what] * sum(map(len, series)), [machine.rust(ORIGINAL, native=True)],
+    return compare("all recordings", TURNS[what] * sum(map(len, series)), [machine.rust(JUDGE, native=True), "--digest"],
                    machine.native("digest"), given, runs)
 
 
@@ -68,7 +67,7 @@ def listing(machine, runs):
     given = data[:32] + data[32:] * (MEGABYTES * 1000000 // len(data[32:]) + 1)
     records = given[32:].count(b"") and (len(given) - 32) // len(data[32:]) * records_of(data)
     head(f"The listing: nanoseconds for a record, {len(given) // 1000000} MB", "", "The Rust", "Here", "cat")
-    return compare(LONG, records, [machine.rust(JUDGE, native=True), "--list", "-"], machine.native("list"), given, runs, [["cat"]])
+    return compare(LONG, records, [machine.rust(JUDGE, native=True), "--list"], machine.native("list"), given, runs, [["cat"]])
 
 
 def records_of(data):
