@@ -73,6 +73,29 @@ class Machine:
         done = run([*counter, *words], given)
         return int(re.search(form, done.stderr).group(1)), done.stdout
 
+    def by_function(self, name, given):
+        """The instructions of a run of a proved program, by function. The C library's, and the loader's, count as "?"."""
+        if X86:
+            need(shutil.which("valgrind"), "no valgrind")
+            with tempfile.NamedTemporaryFile("r") as kept:
+                run(["valgrind", "--tool=callgrind", f"--callgrind-out-file={kept.name}", *self.proved(name)], given)
+                return own_costs(kept, name)
+        self.unpack()
+        plugin = os.path.join(BUILT, "libfunctions.so")
+        os.makedirs(BUILT, exist_ok=True)
+        subprocess.run(["cc", "-O2", "-fPIC", "-shared", "-o", plugin, os.path.join(HERE, "functions.c")], check=True)
+        loader, _, library, path = self.proved(name)
+        lib64 = os.path.join(BUILT, "root", "lib64")
+        os.makedirs(lib64, exist_ok=True)
+        if not os.path.lexists(os.path.join(lib64, os.path.basename(loader))):
+            os.symlink(loader, os.path.join(lib64, os.path.basename(loader)))
+        # The emulator knows the symbols of a program that it starts itself, without the kit's loader before it.
+        root = os.path.join(UNPACKED, "deb", "root", "usr")
+        done = run([os.path.join(root, "bin", "qemu-x86_64"), "-cpu", self.processor, "-L", os.path.join(BUILT, "root"),
+                    "-E", "LD_LIBRARY_PATH=" + library, "-plugin", plugin, path], given,
+                   env={**os.environ, "LD_LIBRARY_PATH": os.path.join(root, "lib", f"{platform.machine()}-linux-gnu")})
+        return {function: int(count) for count, function in (line.split(" ", 1) for line in done.stderr.decode().splitlines())}
+
     # Programs.
 
     def proved(self, name):
@@ -114,9 +137,32 @@ class Machine:
         """The words that run a proved program where times are taken."""
         if X86:
             return self.proved(name)
-        out = os.path.join(BUILT, "native", name)
-        subprocess.run([os.path.join(HERE, "native.sh"), name, out], check=True, stdout=subprocess.DEVNULL)
+        shipped, out = self.proved(name)[-1], os.path.join(BUILT, "native", name)
+        if not os.path.exists(out) or os.path.getmtime(out) < os.path.getmtime(shipped):
+            subprocess.run([os.path.join(HERE, "native.sh"), name, out], check=True, stdout=subprocess.DEVNULL)
         return [out]
+
+
+def own_costs(kept, name):
+    """What callgrind kept, by function of the program `name`."""
+    names, costs, here, function, called = {}, {}, False, "?", False
+    for line in kept:
+        kind, _, rest = line.rstrip("\n").partition("=")
+        if kind in ("ob", "cob", "fn", "cfn"):
+            number, _, said = rest.partition(" ")
+            # A name is said once, where its number first stands.
+            said = names.setdefault((kind[-2:], number), said)
+            if kind == "ob":
+                here = os.path.basename(said) == name
+            elif kind == "fn":
+                function = said.split("'")[0] if here else "?"
+        elif kind == "calls":
+            called = True
+        elif line[0] in "0123456789+-*":
+            if not called:
+                costs[function] = costs.get(function, 0) + int(line.split()[1])
+            called = False
+    return costs
 
 
 def seconds(words, path):

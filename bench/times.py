@@ -1,24 +1,20 @@
 """Native times beside the Rust's, with a null test: the original against itself, in processes of their own, in turn with ours."""
 
-import glob
 import os
 import tempfile
 
 import chunks
 from chunks import PARSES, STEPS
+from inputs import RECORDINGS, ivf_chunks
 from machine import ROOT, seconds
 
 JUDGE = os.path.join(ROOT, "tests", "judge", "judge.rs")
-# How often each chunk is parsed, and each header stepped, so that a run takes about a second.
-TURNS = {PARSES: 1000, STEPS: 4000}
-MEGABYTES = 100
-LONG = "altref.ivf"
-# A null test that is off by more makes the run worthless.
+# How often each chunk is parsed, and each header stepped, so that a run takes a second or two.
+TURNS = {PARSES: 2000, STEPS: 5000}
+# The listing is timed on this recording's records, repeated up to so many bytes.
+LONG, BYTES = "altref.ivf", 100000000
+# A null test that is off by more makes the row worthless.
 LIMIT = 0.02
-
-
-def paths():
-    return sorted(glob.glob(os.path.join(ROOT, "tests", "recordings", "*.ivf")))
 
 
 def least_times(sides, given, runs):
@@ -30,27 +26,27 @@ def least_times(sides, given, runs):
     return [min(column) for column in zip(*taken[1:])]
 
 
-def compare(name, turns, rust, here, given, runs, more=()):
-    """Prints a row; whether the null test was good."""
-    one, again, ours, *others = least_times([rust, rust, here, *more], given, runs)
-    off = abs(again / one - 1)
-    figures = " | ".join(f"{1e9 * time / turns:.0f}" for time in (min(one, again), ours, *others))
-    print(f"| {name} | {figures} | {ours / min(one, again):.2f} | {100 * off:.1f} % |", flush=True)
-    if off > LIMIT:
-        print(f"The null test is off by over {100 * LIMIT:.0f} %: this row is worthless.")
-    return off <= LIMIT
-
-
 def head(title, *columns):
     print(f"\n## {title}\n\n| {' | '.join(columns)} | Ratio | Null test off by |\n|{'---|' * (len(columns) + 2)}")
 
 
+def row(name, turns, rust, here, given, runs, others=()):
+    """Prints nanoseconds for a turn; whether the null test was good."""
+    one, again, ours, *more = least_times([rust, rust, here, *others], given, runs)
+    least, off = min(one, again), abs(again / one - 1)
+    figures = " | ".join(f"{1e9 * time / turns:.0f}" for time in (least, ours, *more))
+    print(f"| {name} | {figures} | {ours / least:.2f} | {100 * off:.1f} % |", flush=True)
+    if off > LIMIT:
+        print(f"\nWorthless: the null test is off by over {100 * LIMIT:.0f} %.")
+    return off <= LIMIT
+
+
 def counted(machine, title, what, runs):
-    series = [chunks_of_one for _, chunks_of_one in chunks.recordings()]
-    head(title, "", "The Rust", "Here")
+    series = [one for _, one in chunks.recordings()]
     given = b"".join(chunks.each(what, TURNS[what], one) for one in series)
-    return compare("all recordings", TURNS[what] * sum(map(len, series)), [machine.rust(JUDGE, native=True), "--digest"],
-                   machine.native("digest"), given, runs)
+    head(title, "", "The Rust", "Here")
+    return row("all recordings", TURNS[what] * sum(map(len, series)), [machine.rust(JUDGE, native=True), "--digest"],
+               machine.native("digest"), given, runs)
 
 
 def parse(machine, runs):
@@ -62,16 +58,10 @@ def segments(machine, runs):
 
 
 def listing(machine, runs):
-    with open(next(path for path in paths() if os.path.basename(path) == LONG), "rb") as file:
+    path = os.path.join(RECORDINGS, LONG)
+    with open(path, "rb") as file:
         data = file.read()
-    given = data[:32] + data[32:] * (MEGABYTES * 1000000 // len(data[32:]) + 1)
-    records = given[32:].count(b"") and (len(given) - 32) // len(data[32:]) * records_of(data)
-    head(f"The listing: nanoseconds for a record, {len(given) // 1000000} MB", "", "The Rust", "Here", "cat")
-    return compare(LONG, records, [machine.rust(JUDGE, native=True), "--list"], machine.native("list"), given, runs, [["cat"]])
-
-
-def records_of(data):
-    at, records = 32, 0
-    while at < len(data):
-        at, records = at + 12 + int.from_bytes(data[at:at + 4], "little"), records + 1
-    return records
+    copies = BYTES // len(data) + 1
+    head("The listing: nanoseconds for a record", f"{BYTES // 1000000} MB", "The Rust", "Here", "cat")
+    return row(LONG, copies * len(ivf_chunks(path)), [machine.rust(JUDGE, native=True), "--list"],
+               machine.native("list"), data[:32] + data[32:] * copies, runs, [["cat"]])
