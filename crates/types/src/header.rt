@@ -53,44 +53,47 @@ impl Header {
 
     pub const MAX_REF_FRAMES: usize = 4;
 
+    // A call's answer is copied; a constant is written where it is wanted, which makes eight of them in a row cheap.
+    pub const DEFAULT: Self = Self {
+        profile: Profile::Profile0,
+        bit_depth: BitDepth::Depth8,
+        subsampling_x: false,
+        subsampling_y: false,
+        color_space: ColorSpace::Unknown,
+        color_range: ColorRange::StudioSwing,
+        show_existing_frame: false,
+        frame_to_show_map_idx: 0,
+        frame_type: FrameType::KeyFrame,
+        show_frame: false,
+        error_resilient_mode: false,
+        width: 0,
+        height: 0,
+        render_and_frame_size_different: false,
+        render_width: 0,
+        render_height: 0,
+        intra_only: false,
+        reset_frame_context: 0,
+        refresh_frame_flags: 0,
+        ref_frame_idx: [0; Self::REFS_PER_FRAME],
+        ref_frame_sign_bias: [0; Self::MAX_REF_FRAMES],
+        allow_high_precision_mv: false,
+        interpolation_filter: InterpolationFilter::EightTap,
+        refresh_frame_context: false,
+        frame_parallel_decoding_mode: false,
+        frame_context_idx: 0,
+        lf: LoopFilterParams::DEFAULT,
+        quant: QuantizationParams::DEFAULT,
+        seg: SegmentationParams::DEFAULT,
+        tile_cols_log2: 0,
+        tile_rows_log2: 0,
+        lossless: false,
+        header_size_in_bytes: 0,
+        uncompressed_header_size_in_bytes: 0,
+    };
+
     pub fn default() -> Self
         ensures { λ r. ⌜ r ≡ defaultHeader ⌝ }
     {
-        Self {
-            profile: Profile::Profile0,
-            bit_depth: BitDepth::Depth8,
-            subsampling_x: false,
-            subsampling_y: false,
-            color_space: ColorSpace::Unknown,
-            color_range: ColorRange::StudioSwing,
-            show_existing_frame: false,
-            frame_to_show_map_idx: 0,
-            frame_type: FrameType::KeyFrame,
-            show_frame: false,
-            error_resilient_mode: false,
-            width: 0,
-            height: 0,
-            render_and_frame_size_different: false,
-            render_width: 0,
-            render_height: 0,
-            intra_only: false,
-            reset_frame_context: 0,
-            refresh_frame_flags: 0,
-            ref_frame_idx: [0; Self::REFS_PER_FRAME],
-            ref_frame_sign_bias: [0; Self::MAX_REF_FRAMES],
-            allow_high_precision_mv: false,
-            interpolation_filter: InterpolationFilter::EightTap,
-            refresh_frame_context: false,
-            frame_parallel_decoding_mode: false,
-            frame_context_idx: 0,
-            lf: LoopFilterParams::default(),
-            quant: QuantizationParams::default(),
-            seg: SegmentationParams::default(),
-            tile_cols_log2: 0,
-            tile_rows_log2: 0,
-            lossless: false,
-            header_size_in_bytes: 0,
-            uncompressed_header_size_in_bytes: 0,
-        }
+        Self::DEFAULT
     }
 }
