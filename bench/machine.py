@@ -71,7 +71,9 @@ class Machine:
         """The x86-64 instructions of a run, and what it printed."""
         counter, form = self.counter()
         done = run([*counter, *words], given)
-        return int(re.search(form, done.stderr).group(1)), done.stdout
+        counted = re.search(form, done.stderr)
+        need(counted, f"{counter[0]} counted nothing: {done.stderr.decode().strip()}")
+        return int(counted.group(1)), done.stdout
 
     def by_function(self, name, given):
         """The instructions of a run of a proved program, by function. The C library's, and the loader's, count as "?"."""
@@ -139,7 +141,7 @@ class Machine:
             return self.proved(name)
         shipped, out = self.proved(name)[-1], os.path.join(BUILT, "native", name)
         if not os.path.exists(out) or os.path.getmtime(out) < os.path.getmtime(shipped):
-            subprocess.run([os.path.join(HERE, "native.sh"), name, out], check=True, stdout=subprocess.DEVNULL)
+            subprocess.run([os.path.join(HERE, "native.sh"), name, out], check=True)
         return [out]
 
 

@@ -25,7 +25,8 @@ for library in $(sed -n "s/#.*//; s/^$name: *//p" "$root/crates.txt"); do
     set -- "$@" --extern "$library=$from/rlib/$library.rlib"
 done
 "$own/bin/rattle" build --crate-name "$name" "$root/crates/$name/src/main.rt" "$@" -L "dependency=$root/target/rlib" -L "dependency=$own/rlib" \
-    --antt-project "$kit/logic/antt-project.json" --logic-built "$own/logic-built" --toolchain "$kept" -o "$kept/x86.o"
+    --antt-project "$kit/logic/antt-project.json" --logic-built "$own/logic-built" --toolchain "$kept" -o "$kept/x86.o" >"$kept/said" 2>&1 ||
+    { cat "$kept/said" >&2; exit 1; }
 
 # The module as text, for this machine. Processor and frame pointer are what rustc gives its own functions on Arm.
 "$clang" --target=x86_64-unknown-linux-gnu -x ir "$kept/module.bc" -S -emit-llvm -Xclang -disable-llvm-passes -o "$kept/x86.ll"
