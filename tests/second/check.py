@@ -71,7 +71,7 @@ def size(width, height):
     return bits((16, width - 1), (16, height - 1))
 
 
-def tail(level=0, deltas="0", base=60, delta_q="000", seg="0", tiles="00"):
+def tail(level=0, deltas="0", base=60, delta_q="000", seg="0", tiles="0"):
     """From the context fields to the end; not for an error-resilient frame."""
     return bits("1000", (6, level), (3, 0), deltas, (8, base), delta_q, seg, tiles, (16, 5))
 
@@ -316,6 +316,65 @@ def feature_cases(check):
     check.fields("switched off, records", got.segment(2, 2), reference_frame_enabled="false", reference_frame="0")
 
 
+def level_cases(check):
+    """Grids of levels: scaled by the frame's level, kept in intra mode 1, cleared by level 0."""
+    deltas = "11" + "0" * 4 + "10000010" + "10000111"
+    lower = features("0", {(1, 1): bits((6, 20), "1")})
+    fixed = features("1", {(1, 1): bits((6, 7), "0")})
+    got = Results(check.program, FRESH + chunk(key(level=9)) + chunk(key(level=40, deltas="10", seg=lower)) +
+                  chunk(key(level=40, deltas=deltas)) + chunk(key(level=40, seg=fixed)) +
+                  chunk(inter(level=40)) + chunk(key(level=0, deltas=deltas)))
+    check.fields("less 20", got.segment(1, 1), lvl_lookup="[[22, 9], [20, 20], [18, 18], [18, 18]]")
+    check.fields("without the feature", got.segment(1), lvl_lookup="[[42, 9], [40, 40], [38, 38], [38, 38]]")
+    check.fields("mode deltas", got.segment(2), lvl_lookup="[[42, 9], [42, 34], [40, 32], [40, 32]]")
+    check.fields("absolute", got.segment(3, 1), lvl_lookup="[[7, 7], [7, 7], [7, 7], [7, 7]]")
+    check.fields("off", got.segment(4, 1), lvl_lookup="[[40, 40], [40, 40], [40, 40], [40, 40]]")
+    check.fields("level 0", got.segment(5), lvl_lookup="[[0, 0], [0, 0], [0, 0], [0, 0]]")
+
+
+def scale_cases(check):
+    """Quantizer indexes, by entries of the first tables."""
+    dc, ac = read_tables()["DC_QLOOKUP"], read_tables()["AC_QLOOKUP"]
+    delta_q = bits("1", (4, 3), "0", "1", (4, 5), "1", "1", (4, 7), "0")
+    low = features("1", {(1, 0): bits((8, 4), "1"), (2, 0): bits((8, 10), "0")})
+    added = features("0", {(2, 0): bits((8, 10), "1")})
+    got = Results(check.program, FRESH + chunk(key(base=100, delta_q=delta_q)) +
+                  chunk(key(base=60, delta_q=delta_q, seg=low)) + chunk(inter(base=60)) +
+                  chunk(key(base=60, delta_q=delta_q, seg=added)) + chunk(inter(base=60, seg="0")))
+    for what, line, at in (("base", got.segment(0), 100), ("absolute, under 0", got.segment(1, 1), 0),
+                           ("absolute", got.segment(1, 2), 10), ("added", got.segment(3, 2), 50)):
+        check.fields(what, line, luma_ac_quant_scale=ac[at], luma_dc_quant_scale=dc[at + 3],
+                     chroma_ac_quant_scale=ac[at + 7], chroma_dc_quant_scale=dc[max(at - 5, 0)])
+    check.fields("segmentation off", got.segment(4, 2), luma_ac_quant_scale=ac[60])
+
+
+def resets(check):
+    """What each kind of frame does with a state that is set in every field."""
+    resilient = packed(bits("10", "00", "0111", (8, 0), "0" * 12, "1", "0", "0", "1", "00", tail()[4:]))
+    frames = ("key", K, True), ("intra-only", intra(), True), ("resilient", resilient, True), ("inter", inter(), False)
+    for what, frame, cleared in frames:
+        got = Results(check.program, FRESH + state((0, 0, 5), (1, 6)) + chunk(frame))
+        flag, datum = ("false", "0") if cleared else ("true", "5")
+        grid = "[" + ", ".join(["[" + ", ".join(["{0}"] * 4) + "]"] * 8) + "]"
+        check.fields(f"{what} on a set state", got.header(0), enabled="false", update_map="false", update_data="false",
+                     temporal_update="true", abs_or_delta_update=flag, feature_enabled=grid.format(flag),
+                     feature_data=grid.format(datum), tree_probs="[9, 9, 9, 9, 9, 9, 9]", pred_probs="[9, 9, 9]",
+                     delta_update="true", update_ref_delta="[true, true, true, true]",
+                     ref_deltas="[1, 0, -1, -1]" if cleared else "[-6, -6, -6, -6]",
+                     mode_deltas="[0, 0]" if cleared else "[-6, -6]")
+    got = Results(check.program, FRESH + state((0, 0, 5), (1, 6), (3, 4)) + chunk(b"") + chunk(b"\x9d"))
+    check.equal("show-existing keeps the state", got.state(1), got.state(0))
+    check.fields("show-existing", got.header(1), profile="Profile2", show_existing_frame="true",
+                 frame_to_show_map_idx="5", bit_depth="Depth8", ref_deltas="[0, 0, 0, 0]", width="0")
+    check.fields("its records", got.segment(1), luma_ac_quant_scale="4", reference_frame="0")
+
+
+def tile_rows(check):
+    for rows, wanted in ("0", "0"), ("10", "1"), ("11", "2"):
+        got = Results(check.program, FRESH + chunk(key(tiles=rows)))
+        check.fields(f"tile rows {rows}", got.header(0), tile_rows_log2=wanted, header_size_in_bytes="5")
+
+
 def any_state(check):
     """States that no stream reaches."""
     got = Results(check.program, FRESH + state((2, 0, 0), (2, 0)) + chunk(inter(level=63, deltas="10", seg="100")))
@@ -354,10 +413,15 @@ def domains(check):
     check.domain("stored by a state", state((0, 0, 1)) + chunk(off), 4)
 
 
+def read_tables():
+    """The tables' numbers, as text."""
+    lines = [line.split() for line in open(TABLES) if line.strip() and line[0] != "#"]
+    return {words[0]: words[1:] for words in lines}
+
+
 def tables(check):
     """Each entry of the six tables, by a key frame with that base index."""
-    lines = [line.split() for line in open(TABLES) if line.strip() and line[0] != "#"]
-    wanted = {words[0]: words[1:] for words in lines}
+    wanted = read_tables()
     for suffix, profile, color in ("", "00", "0010"), ("_10", "01", "00010"), ("_12", "01", "10010"):
         records = b"".join(chunk(key(profile=profile, color=color, base=i)) for i in range(256))
         got = Results(check.program, FRESH + records)
@@ -513,7 +577,8 @@ def random_check(check, count, seed):
     print(", ".join(f"answer {a} domain {d}: {n}" for (a, d), n in sorted(seen.items())))
 
 
-CASES = [document_cases, example, refusals, colours, references, settings, feature_cases, any_state, domains, tables]
+CASES = [document_cases, example, refusals, colours, references, settings, resets, tile_rows, feature_cases,
+         level_cases, scale_cases, any_state, domains, tables]
 
 
 def main(args):
