@@ -664,16 +664,41 @@ static void outside_chunk(void)
 
 // Random bytes, most of them past the first tests: a marker in front, often a sync code behind it, often an index at the end.
 
+static void good_marker(unsigned at)
+{
+    chunk[at] = 0x80 | (chunk[at] & 0x3F);
+}
+
+// Sizes that share the room, most often with a good marker in front of each frame.
+static void random_sizes(unsigned room, unsigned count, unsigned width)
+{
+    bool good = percent(70);
+    unsigned at = 0;
+    for (unsigned i = 0; i < count; i++) {
+        unsigned size = percent(5) ? bits(8) : i + 1 == count && percent(50) ? room - at : below((room - at) / (count - i) * 2 + 1);
+        memset(chunk + room + 1 + i * width, 0, width);
+        chunk[room + 1 + i * width] = (uint8_t)size;
+        if (size > room - at)
+            return;
+        if (good && size)
+            good_marker(at);
+        // Most often such a short frame is only accepted if it shows an existing one.
+        if (good && size && percent(60))
+            chunk[at] |= 8;
+        at += size;
+    }
+}
+
 static void random_index(void)
 {
     uint8_t marker = (uint8_t)(0xC0 | (percent(70) ? 0 : below(4)) << 3 | bits(3));
     chunk[length - 1] = marker;
-    if (length < index_length(marker) || percent(40))
+    if (length < index_length(marker) || percent(30))
         return;
-    unsigned first = length - index_length(marker), width = (marker >> 3 & 3u) + 1;
-    chunk[first] = marker;
-    for (unsigned i = first + 1; i < length - 1; i++)
-        chunk[i] = (i - first - 1) % width || percent(10) ? (uint8_t)(percent(90) ? 0 : bits(8)) : (uint8_t)below(14);
+    unsigned room = length - index_length(marker);
+    chunk[room] = marker;
+    if (percent(90))
+        random_sizes(room, (marker & 7u) + 1, (marker >> 3 & 3u) + 1);
 }
 
 static void random_chunk(void)
@@ -682,7 +707,7 @@ static void random_chunk(void)
     start_chunk();
     put_random(below(41));
     if (length && percent(85))
-        chunk[0] = 0x80 | (chunk[0] & 0x3F);
+        good_marker(0);
     if (length > 4 && percent(40))
         memcpy(chunk + 1, sync, sizeof sync);
     if (length && percent(35))
@@ -969,7 +994,7 @@ static void real_chunk(void)
 
 static unsigned start_recording(void)
 {
-    static const unsigned rates[] = {0, 5, 25, 100};
+    static const unsigned rates[] = {0, 10, 30, 60, 60, 100};
     playing = recordings[below(recording_count)];
     played = 0;
     bent = PICK(rates);
