@@ -218,14 +218,14 @@ class Comparison:
 
     def with_rust(self, reasons):
         """On the domain, where the Rust has the same memory before the chunk."""
-        unlike = [number for number, (proved, rust) in enumerate(zip(self.proved, self.rust)) if proved != rust]
+        unlike = [number for number, (proved, rust, _) in enumerate(zip(self.proved, self.rust, reasons)) if proved != rust]
         parted = {number + 1 for number in unlike if memory(self.proved[number]) != memory(self.rust[number])}
         if parted:
             parted -= series_starts(self.path)
-        inside = reasons.count(b"0")
-        self.counts.rust = inside - sum(reason == b"0" for number, reason in enumerate(reasons) if number in parted)
-        for number in unlike:
-            if reasons[number] == b"0" and number not in parted and not agrees(self.proved[number], self.rust[number]):
+        inside = {number for number in parted.union(unlike) if number < len(reasons) and reasons[number] == b"0"}
+        self.counts.rust = reasons.count(b"0") - len(inside & parted)
+        for number in sorted(inside.intersection(unlike) - parted):
+            if not agrees(self.proved[number], self.rust[number]):
                 self.differ(number, "the Rust")
 
     def differences(self, most):
@@ -304,43 +304,55 @@ def last_block(words, path):
     """The last chunk of a series in the long form. Each chunk ends with the state."""
     lines = [line.decode() for line in lines_of(words, path)[0]]
     blocks = list(compare.program_answers(lines))
-    return blocks[-1] if blocks else []
+    return blocks[-1] if blocks else ["nothing"]
 
 
-def rust_block(judge, data):
-    """The same of the Rust."""
-    given = b"".join(b"fresh\n" if kind == 0 else data[start:start + length].hex().encode() + b"\n" for kind, start, length in records(data))
-    output = subprocess.run([judge, "--hex"], input=given, stdout=subprocess.PIPE, stderr=subprocess.DEVNULL, check=True).stdout.decode()
-    answers = list(compare.judge_answers(output.splitlines()))
+def rust_block(judge, data, proved):
+    """The same of the Rust. It has no refusal numbers, so a refusal is printed as the proved reader's if that refuses too."""
+    given = b"".join(b"fresh\n" if kind == 0 else data[start:start + length].hex().encode() + b"\n"
+                     for kind, start, length in records(data))
+    output = subprocess.run([judge, "--hex"], input=given, stdout=subprocess.PIPE, stderr=subprocess.DEVNULL, check=True).stdout
+    answers = list(compare.judge_answers(output.decode().splitlines()))
     number, answer = len(answers) - 1, answers[-1]
     if not answer.accepted:
-        return [f"{number} refused ? frame ? ({answer.head})", answer.state]
+        return [proved[0] if " refused " in proved[0] else f"{number} refused: {answer.head}", answer.state]
     lines = [line for frame in answer.frames for line in compare.rust_frame(frame)]
     return [line if line.startswith("  ") else f"{number} {line}" for line in lines] + [answer.state]
 
 
-def explain(given):
-    kind, number = given.explain[0], int(given.explain[1])
-    with tempfile.NamedTemporaryFile(prefix="scale-") as file:
-        part, place = divmod(number, PART)
-        subprocess.run(generate_command(given, kind, part, PART, "--only", str(place)), stdout=file, check=True)
-        data = read(file.name)
-        in_series = [(start, length) for record, start, length in records(data) if record == 1]
-        start, length = in_series[-1]
-        print(f"seed {given.seed} {kind} {number}: chunk {len(in_series) - 1} of its series, {length} bytes: {data[start:start + length].hex().upper()}")
-        if any(record == 3 for record, _, _ in records(data)):
-            print("  the series sets states, which the programs that print the long form don't read; the digests:")
-            for name, words in (("digest", program.command(given.program, given.tools)), ("second", [given.second, "--digest"])):
-                print(f"  {name}: {lines_of(words, file.name)[0][-1].decode()}")
-            return
-        proved = last_block(program.command(given.trace, given.tools), file.name)
-        others = {"second": last_block([given.second, "--trace"], file.name)}
-        if given.rust:
-            others["the Rust"] = rust_block(given.judge, data)
+def explain_blocks(given, path, data):
+    """The proved reader's long form, and where the others' isn't the same."""
+    proved = last_block(program.command(given.trace, given.tools), path)
+    others = {"second": last_block([given.second, "--trace"], path)}
+    if given.rust:
+        others["the Rust"] = rust_block(given.judge, data, proved)
     print("\n".join(proved))
     for name, block in others.items():
-        found = compare.differences(proved, block, name) if proved != block and proved and block else []
-        print(f"{name}: " + ("the same" if proved == block else "\n  ".join(["", *found]) if found else "\n".join(["", *block])))
+        print(f"{name}: {'the same' if block == proved else 'not the same'}")
+        if block != proved:
+            print("\n".join(f"  {line}" for line in compare.differences(proved, block, name)))
+
+
+def explain_lines(given, path):
+    print("  its series sets states, which the programs that print the long form don't read; the digests:")
+    for name, words in (("digest", program.command(given.program, given.tools)), ("second", [given.second, "--digest"])):
+        lines, _ = lines_of(words, path)
+        print(f"  {name}: {lines[-1].decode() if lines else 'nothing'}")
+
+
+def explain(given):
+    kind, number = given.explain[0], int(given.explain[1])
+    part, place = divmod(number, PART)
+    with tempfile.NamedTemporaryFile(prefix="scale-") as file:
+        subprocess.run(generate_command(given, kind, part, PART, "--only", str(place)), stdout=file, check=True)
+        data = read(file.name)
+        places = [(start, length) for record, start, length in records(data) if record == 1]
+        start, length = places[-1]
+        print(f"seed {given.seed}: {kind} {number}: chunk {len(places) - 1} of its series: bytes {data[start:start + length].hex().upper()}")
+        if any(record == 3 for record, _, _ in records(data)):
+            explain_lines(given, file.name)
+        else:
+            explain_blocks(given, file.name, data)
 
 
 # What is needed.
