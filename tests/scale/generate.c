@@ -1010,7 +1010,7 @@ struct series {
 };
 
 static const struct series kinds[] = {
-    {"fields", 50, 350, fields_chunk}, {"refused", 50, 350, refused_chunk}, {"outside", 20, 180, outside_chunk},
+    {"fields", 50, 350, fields_chunk}, {"refused", 50, 350, refused_chunk}, {"outside", 10, 50, outside_chunk},
     {"real", 0, 0, real_chunk}, {"random", 20, 80, random_chunk}, {"states", 30, 60, states_chunk}};
 
 static unsigned start_series(const struct series *kind)
