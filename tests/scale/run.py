@@ -334,7 +334,8 @@ def explain_blocks(given, path, data):
 
 
 def explain_lines(given, path):
-    print("  its series sets states, which the programs that print the long form don't read; the digests:")
+    print("  its series sets states, which the proved program with the long form doesn't read; the second reader's, and both digests:")
+    print("\n".join(last_block([given.second, "--trace"], path)))
     for name, words in (("digest", program.command(given.program, given.tools)), ("second", [given.second, "--digest"])):
         lines, _ = lines_of(words, path)
         print(f"  {name}: {lines[-1].decode() if lines else 'nothing'}")
