@@ -55,11 +55,12 @@ class Part:
 
 def parts(given):
     """The parts of all kinds, mixed, so that a run that ends early has put some of each."""
-    planned = []
+    planned, left = [], given.chunks
     kinds = given.kinds or list(KINDS)
     shares = sum(KINDS[kind] for kind in kinds)
     for kind in kinds:
-        chunks = given.chunks * KINDS[kind] // shares
+        chunks = left * KINDS[kind] // shares
+        left, shares = left - chunks, shares - KINDS[kind]
         count = -(-chunks // PART)
         planned += [((number + 0.5) / count, Part(kind, number, min(PART, chunks - number * PART)))
                     for number in range(count)]
