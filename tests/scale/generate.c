@@ -27,7 +27,7 @@ static void stop(const char *what, const char *which)
     exit(2);
 }
 
-// Dice: splitmix64.
+// Dice: splitmix64. No expression rolls them twice where C leaves the order open, so that every compiler's program writes the same.
 
 static uint64_t dice;
 
@@ -126,10 +126,16 @@ static struct temper temper;
 static void choose_temper(void)
 {
     static const unsigned rare[] = {1, 3, 10, 25}, often[] = {10, 50, 80, 100}, many[] = {2, 10, 25, 60};
-    temper = (struct temper){
-        .key = PICK(rare), .intra_only = PICK(rare), .show_existing = PICK(rare), .error_resilient = PICK(rare),
-        .segmentation = PICK(often), .data_update = PICK(often), .superframe = PICK(many),
-        .profile = below(4), .other_profile = percent(50) ? 0 : 30};
+    temper.key = PICK(rare);
+    temper.intra_only = PICK(rare);
+    temper.show_existing = PICK(rare);
+    temper.error_resilient = PICK(rare);
+    temper.segmentation = PICK(often);
+    temper.data_update = PICK(often);
+    temper.superframe = PICK(many);
+    temper.profile = below(4);
+    temper.other_profile = percent(50) ? 0 : 30;
+    temper.free_features = false;
 }
 
 // The chunk at hand: its frames end to end, each with the length of its header, and then the index.
@@ -569,10 +575,15 @@ static void refused_chunk(void)
         return;
     }
     struct memory before = memory;
-    unsigned count = choose_frames();
-    put_frames(count, below(count), percent(50) ? WRONG_MARKER : WRONG_SYNC);
+    unsigned count = choose_frames(), at = below(count);
+    put_frames(count, at, percent(50) ? WRONG_MARKER : WRONG_SYNC);
     end_chunk(count > 1 || percent(5));
     memory = before;
+}
+
+static void flip_bit(unsigned at)
+{
+    chunk[at] ^= (uint8_t)(1u << below(8));
 }
 
 // What leaves the domain.
@@ -639,7 +650,7 @@ static void leaving_chunk(enum leave how)
     case BENT_INDEX:
         put_frames(1 + below(MOST_FRAMES), 0, NO_FAULT);
         end_chunk(true);
-        chunk[length - 1 - below(index_length(chunk[length - 1]))] ^= (uint8_t)(1u << below(8));
+        flip_bit(length - 1 - below(index_length(chunk[length - 1])));
         break;
     case FREE_FEATURES:
         free_features();
@@ -691,14 +702,15 @@ static void random_sizes(unsigned room, unsigned count, unsigned width)
 
 static void random_index(void)
 {
-    uint8_t marker = (uint8_t)(0xC0 | (percent(70) ? 0 : below(4)) << 3 | bits(3));
+    unsigned width = percent(70) ? 1 : 1 + below(4);
+    uint8_t marker = (uint8_t)(0xC0 | (width - 1) << 3 | bits(3));
     chunk[length - 1] = marker;
     if (length < index_length(marker) || percent(30))
         return;
     unsigned room = length - index_length(marker);
     chunk[room] = marker;
     if (percent(90))
-        random_sizes(room, (marker & 7u) + 1, (marker >> 3 & 3u) + 1);
+        random_sizes(room, (marker & 7u) + 1, width);
 }
 
 static void random_chunk(void)
@@ -930,7 +942,7 @@ static unsigned take_frames(struct record r)
 static void flip_bits(unsigned first, unsigned count)
 {
     for (unsigned left = 1 + below(3); left; left--)
-        chunk[first + below(count)] ^= (uint8_t)(1u << below(8));
+        flip_bit(first + below(count));
 }
 
 // The first bytes of a frame, most often the very first.
@@ -945,10 +957,12 @@ static void bend_frame(void)
     unsigned i = below(frames), count = bent_bytes(i);
     if (!count)
         return;
-    if (percent(70))
+    if (percent(70)) {
         flip_bits(frame_at[i], count);
-    else
-        chunk[frame_at[i] + below(count)] = (uint8_t)bits(8);
+        return;
+    }
+    unsigned at = frame_at[i] + below(count);
+    chunk[at] = (uint8_t)bits(8);
 }
 
 static void bend_end(void)
