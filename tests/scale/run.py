@@ -39,7 +39,7 @@ KINDS = {"fields": 30, "refused": 15, "outside": 15, "real": 15, "random": 15, "
 MADE_FOR = {"fields": b"0", "refused": b"045"}
 # The Rust can't be set to any state.
 NOT_WITH_RUST = ("states",)
-PART = 100_000
+PART = 50_000
 STATE_BYTES = 234
 
 
@@ -373,12 +373,14 @@ def build_generator(given):
         missing(f"no {compiler} to build the generator")
     os.makedirs(os.path.dirname(given.generate), exist_ok=True)
     if subprocess.run([compiler, "-O2", "-Wall", "-Wextra", "-o", given.generate, source]).returncode:
-        sys.exit(2)
+        missing(f"{source} can't be built")
 
 
-def build_other(path, words):
-    if not os.path.exists(path) and (not os.path.exists(words[0]) or subprocess.run(words).returncode):
-        missing(f"no {path}")
+def build_reader(path, folder, *words):
+    """By the folder's own build, if it isn't there."""
+    build = os.path.join(ROOT, "tests", folder, "build")
+    if not os.path.exists(path) and (not os.path.exists(build) or subprocess.run([build, *words]).returncode):
+        missing(f"no {path}, and it can't be built")
 
 
 def have_rust(given):
@@ -396,10 +398,10 @@ def have_rust(given):
 
 def make_ready(given):
     build_generator(given)
-    build_other(given.second, [os.path.join(ROOT, "tests", "second", "build")])
+    build_reader(given.second, "second", given.second)
     given.rust = have_rust(given)
     if given.rust:
-        build_other(given.judge, [os.path.join(ROOT, "tests", "judge", "build"), given.src, given.judge])
+        build_reader(given.judge, "judge", given.src, given.judge)
     for needed in (given.program, given.tools):
         if not os.path.exists(needed):
             missing(f"no {needed}")
