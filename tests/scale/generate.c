@@ -1,6 +1,6 @@
 // Writes series of VP9 chunks as the records that the readers take: a byte 0 for a fresh state; a byte 1, four bytes of length and a chunk; a byte 3 and a
 // state. README.md says what each kind of series holds. The same words give the same bytes on every machine.
-//   generate --seed S --chunks N [--kind KIND] [--part P] [--only I] [--recordings DIR..]
+//   generate --seed S --chunks N [--kind KIND] [--part P] [--first F] [--only I] [--recordings DIR..]
 // P numbers parts of one seed and kind, each with series of its own. --only I: just the series that holds chunk I, up to that chunk.
 #define _POSIX_C_SOURCE 200809L
 #include <dirent.h>
@@ -1015,6 +1015,22 @@ static unsigned start_recording(void)
     return playing.count;
 }
 
+// All strings of bytes, the shorter ones first, from number F on (--first).
+static uint64_t short_number;
+
+static void short_chunk(void)
+{
+    uint64_t number = short_number++, count = 1;
+    for (length = 0; number >= count; length++) {
+        number -= count;
+        count *= 256;
+    }
+    for (unsigned i = length; i > 0; i--) {
+        chunk[i - 1] = number % 256;
+        number /= 256;
+    }
+}
+
 // The kinds of series.
 
 struct series {
@@ -1025,7 +1041,8 @@ struct series {
 
 static const struct series kinds[] = {
     {"fields", 50, 350, fields_chunk}, {"refused", 50, 350, refused_chunk}, {"outside", 10, 50, outside_chunk},
-    {"real", 0, 0, real_chunk}, {"random", 20, 80, random_chunk}, {"states", 30, 60, states_chunk}};
+    {"real", 0, 0, real_chunk}, {"random", 20, 80, random_chunk}, {"states", 30, 60, states_chunk},
+    {"short", 1000, 1, short_chunk}};
 
 static unsigned start_series(const struct series *kind)
 {
@@ -1089,6 +1106,8 @@ int main(int count, char **words)
             kind = kind_named(words[++i]);
         else if (!strcmp(word, "--part"))
             part = number(words[++i]);
+        else if (!strcmp(word, "--first"))
+            short_number = number(words[++i]);
         else if (!strcmp(word, "--only"))
             only = (int64_t)number(words[++i]);
         else if (!strcmp(word, "--recordings"))

@@ -34,7 +34,7 @@ import compare
 import program
 
 # Shares of the kinds, in percent.
-KINDS = {"fields": 30, "refused": 15, "outside": 15, "real": 15, "random": 15, "states": 10}
+KINDS = {"fields": 30, "refused": 15, "outside": 15, "real": 13, "random": 10, "states": 10, "short": 7}
 # The answers that a kind is made for; all its chunks lie on the domain.
 MADE_FOR = {"fields": b"0", "refused": b"045"}
 # The Rust can't be set to any state.
@@ -70,7 +70,7 @@ def parts(given):
 # The programs.
 
 def generate_command(given, kind, number, chunks, *more):
-    words = [given.generate, "--seed", str(given.seed), "--kind", kind, "--part", str(number), "--chunks", str(chunks), *more]
+    words = [given.generate, "--seed", str(given.seed), "--kind", kind, "--part", str(number), "--first", str(number * PART), "--chunks", str(chunks), *more]
     return words + (["--recordings", os.path.join(ROOT, "tests", "recordings")] if kind == "real" else [])
 
 
