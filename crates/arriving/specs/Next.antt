@@ -1,7 +1,7 @@
 -- What stands next in an IVF file, of which s is at hand: document 01's records, refusals 8 and 9.
 -- Assumes nothing.
 use Prim.Native.Nat.{ℕ, _+_}
-use mathlib.Core.Bool.{Bool, _&&_}
+use mathlib.Core.Bool.{Bool}
 use mathlib.Core.List.{List}
 use lib.Dec.{ltb, eqb}
 use lib.ListN.{length}
@@ -19,9 +19,9 @@ abbrev pub shortBy : Bool → Next
 shortBy ended = pick ended Cut More
 
 -- a record of n bytes of data: one that is too long is passed by unread
-unfoldable pub recordOf : List ℕ → Bool → ℕ → Next
-recordOf s ended n = pick (ltb 65536 n) (Long n) (pick (ltb (length s) (12 + n)) (shortBy ended) (Data n))
+unfoldable pub dataBy : List ℕ → Bool → ℕ → Next
+dataBy s ended n = pick (ltb 65536 n) (Long n) (pick (ltb (length s) (12 + n)) (shortBy ended) (Data n))
 
 -- a record's header has 12 bytes, the first 4 of which are the length of its data
 unfoldable pub nextRecord : List ℕ → Bool → Next
-nextRecord s ended = pick (eqb (length s) 0) (emptyBy ended) (pick (ltb (length s) 12) (shortBy ended) (recordOf s ended (little s 0 4)))
+nextRecord s ended = pick (eqb (length s) 0) (emptyBy ended) (pick (ltb (length s) 12) (shortBy ended) (dataBy s ended (little s 0 4)))

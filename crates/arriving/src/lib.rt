@@ -39,7 +39,7 @@ fn data_size(s: &[u8]) -> u64
     requires { ⌜ 4 ≤ length (now s) ⌝ }
     ensures { λ r. ⌜ r ≡ little (now (s .entry)) 0 4 ⌝ }
 {
-    let Little::Value(n) = coded::read_little(s, 0, 4) else {
+    let Little::Value(n) = ivf::record_length(s) else {
         return 0;
     };
     n
