@@ -578,7 +578,7 @@ impl Digested {
         self.print(out, &words)
     }
 
-    /// Parses the chunk n times, as a caller does, and answers the last time.
+    /// Parses the chunk n times, as a caller does, and answers the last time. For benchmarks, as are the steps.
     fn answer_parses(mut self, out: &mut impl Write, chunk: &[u8], n: u32) -> io::Result<()> {
         if n == 0 {
             return self.print(out, "0 0 0");
