@@ -58,7 +58,12 @@ mod stub {
     }
 }
 
-use codec::vp9::parser::{FrameType, Header, Parser, Segmentation, MAX_SEGMENTS};
+use codec::vp9::parser::{
+    FrameType, Header, LoopFilterParams, Parser, QuantizationParams, Segmentation, SegmentationParams,
+    MAX_SEGMENTS,
+};
+use std::fmt;
+use std::hint::black_box;
 use std::io::{self, BufRead, BufWriter, Read, Write};
 use std::panic::{catch_unwind, AssertUnwindSafe};
 
@@ -79,7 +84,7 @@ enum Verdict {
 }
 
 /// All that is carried from chunk to chunk.
-#[derive(Default)]
+#[derive(Clone, Default)]
 struct Memory {
     parser: Parser,
     segments: Segments,
@@ -125,18 +130,19 @@ struct Options {
     input: Input,
     trace: bool,
     list: bool,
+    digest: bool,
     records: bool,
     state: bool,
     file: Option<String>,
 }
 
 const USAGE: &str = "usage: judge [--brief | --quiet-state] (--hex | --ivf) [FILE]
-       judge (--trace | --list) [FILE]
-FILE is - or left out for standard input; --trace and --list take an IVF file";
+       judge (--trace | --list | --digest) [FILE]
+FILE is - or left out for standard input; --trace and --list take an IVF file, --digest the records of tests/reader/DIGEST.md";
 
 fn read_options() -> Option<Options> {
     let mut options =
-        Options { input: Input::Hex, trace: false, list: false, records: true, state: true, file: None };
+        Options { input: Input::Hex, trace: false, list: false, digest: false, records: true, state: true, file: None };
     for arg in std::env::args().skip(1) {
         match arg.as_str() {
             "--hex" => options.input = Input::Hex,
@@ -146,6 +152,7 @@ fn read_options() -> Option<Options> {
                 options.input = Input::Ivf;
             }
             "--list" => options.list = true,
+            "--digest" => options.digest = true,
             "--brief" => {
                 options.records = false;
                 options.state = false;
@@ -370,6 +377,295 @@ fn run_trace(options: &Options, out: &mut impl Write) -> io::Result<()> {
     writeln!(out, "{} chunks {} refused", chunks, refused)
 }
 
+/// A digest of numbers in a row, as tests/reader/DIGEST.md has it.
+#[derive(Clone, Copy, Default)]
+struct Digest(u64);
+
+impl Digest {
+    fn number(&mut self, x: impl Into<u64>) {
+        self.0 = (self.0 * 1000003 + x.into()) % 2147483647;
+    }
+
+    fn signed(&mut self, n: impl Into<i64>) {
+        self.number((n.into() + 65536) as u64);
+    }
+
+    fn numbers<T: Into<u64>>(&mut self, row: impl IntoIterator<Item = T>) {
+        row.into_iter().for_each(|x| self.number(x));
+    }
+
+    fn signed_numbers<T: Into<i64>>(&mut self, row: impl IntoIterator<Item = T>) {
+        row.into_iter().for_each(|n| self.signed(n));
+    }
+
+    fn loop_filter(&mut self, lf: &LoopFilterParams) {
+        self.numbers([lf.level, lf.sharpness]);
+        self.numbers([lf.delta_enabled, lf.delta_update]);
+        self.numbers(lf.update_ref_delta);
+        self.signed_numbers(lf.ref_deltas);
+        self.numbers(lf.update_mode_delta);
+        self.signed_numbers(lf.mode_deltas);
+    }
+
+    fn quantization(&mut self, quant: &QuantizationParams) {
+        self.number(quant.base_q_idx);
+        self.signed_numbers([quant.delta_q_y_dc, quant.delta_q_uv_dc, quant.delta_q_uv_ac]);
+    }
+
+    fn segmentation(&mut self, seg: &SegmentationParams) {
+        self.numbers([seg.enabled, seg.update_map]);
+        self.numbers(seg.tree_probs);
+        self.numbers(seg.pred_probs);
+        self.numbers([seg.temporal_update, seg.update_data, seg.abs_or_delta_update]);
+        self.numbers(seg.feature_enabled.into_iter().flatten());
+        self.signed_numbers(seg.feature_data.into_iter().flatten());
+    }
+
+    fn header(&mut self, h: &Header) {
+        self.numbers([h.profile as u32, h.bit_depth as u32]);
+        self.numbers([h.subsampling_x, h.subsampling_y]);
+        self.numbers([h.color_space as u32, h.color_range as u32]);
+        self.number(h.show_existing_frame);
+        self.numbers([h.frame_to_show_map_idx, h.frame_type as u8]);
+        self.numbers([h.show_frame, h.error_resilient_mode]);
+        self.numbers([h.width, h.height]);
+        self.number(h.render_and_frame_size_different);
+        self.numbers([h.render_width, h.render_height]);
+        self.number(h.intra_only);
+        self.numbers([h.reset_frame_context, h.refresh_frame_flags]);
+        self.numbers(h.ref_frame_idx);
+        self.numbers(h.ref_frame_sign_bias);
+        self.number(h.allow_high_precision_mv);
+        self.number(h.interpolation_filter as u32);
+        self.numbers([h.refresh_frame_context, h.frame_parallel_decoding_mode]);
+        self.number(h.frame_context_idx);
+        self.loop_filter(&h.lf);
+        self.quantization(&h.quant);
+        self.segmentation(&h.seg);
+        self.numbers([h.tile_cols_log2, h.tile_rows_log2]);
+        self.number(h.lossless);
+        self.numbers([h.header_size_in_bytes, h.uncompressed_header_size_in_bytes]);
+    }
+
+    fn segments(&mut self, segments: &Segments) {
+        for s in segments {
+            self.numbers(s.lvl_lookup.into_iter().flatten());
+            self.signed_numbers([s.luma_ac_quant_scale, s.luma_dc_quant_scale]);
+            self.signed_numbers([s.chroma_ac_quant_scale, s.chroma_dc_quant_scale]);
+            self.number(s.reference_frame_enabled);
+            self.signed(s.reference_frame);
+            self.number(s.reference_skip_enabled);
+        }
+    }
+
+    fn of_segments(segments: &Segments) -> Digest {
+        let mut digest = Digest::default();
+        digest.segments(segments);
+        digest
+    }
+
+    fn frame(&mut self, seen: &Seen) {
+        self.numbers([seen.offset as u64, seen.size as u64]);
+        self.header(&seen.header);
+        self.segments(&seen.segments);
+    }
+}
+
+/// Takes in the text of a parser, whose fields are private: each word that isn't a field's name is a value.
+#[derive(Default)]
+struct StateDigest {
+    digest: Digest,
+    word: String,
+    signed: bool,
+    skipped: bool,
+}
+
+impl StateDigest {
+    fn of(parser: &Parser) -> Digest {
+        let mut state = StateDigest::default();
+        fmt::write(&mut state, format_args!("{parser:?}")).expect("nothing fails");
+        state.digest
+    }
+
+    fn name(&mut self) {
+        self.signed = matches!(self.word.as_str(), "ref_deltas" | "mode_deltas" | "feature_data");
+        // The block counts, which document 01's state doesn't hold.
+        self.skipped = matches!(self.word.as_str(), "mi_cols" | "mi_rows" | "sb64_cols" | "sb64_rows");
+        self.word.clear();
+    }
+
+    fn value(&mut self) {
+        if !self.skipped && !self.word.is_empty() {
+            match self.word.parse::<i64>() {
+                Ok(n) if self.signed => self.digest.signed(n),
+                Ok(n) => self.digest.number(n as u64),
+                Err(_) => self.digest.number(variant_number(&self.word)),
+            }
+        }
+        self.word.clear();
+    }
+}
+
+impl fmt::Write for StateDigest {
+    fn write_str(&mut self, text: &str) -> fmt::Result {
+        for c in text.chars() {
+            match c {
+                ':' => self.name(),
+                // A record's name.
+                '{' => self.word.clear(),
+                ' ' => {}
+                ',' | '[' | ']' | '}' => self.value(),
+                _ => self.word.push(c),
+            }
+        }
+        Ok(())
+    }
+}
+
+fn variant_number(word: &str) -> u64 {
+    match word {
+        "false" | "Unknown" | "StudioSwing" => 0,
+        "true" | "Bt601" | "FullSwing" => 1,
+        "Bt709" => 2,
+        "Smpte170" => 3,
+        "Smpte240" => 4,
+        "Bt2020" => 5,
+        "Reserved2" => 6,
+        "CsSrgb" => 7,
+        "Depth8" => 8,
+        "Depth10" => 10,
+        "Depth12" => 12,
+        _ => panic!("no number for {word}"),
+    }
+}
+
+/// What is carried from chunk to chunk, with its two digests.
+#[derive(Clone)]
+struct Digested {
+    memory: Memory,
+    segments: Digest,
+    state: Digest,
+}
+
+impl Digested {
+    fn of(memory: Memory) -> Self {
+        let segments = Digest::of_segments(&memory.segments);
+        let state = StateDigest::of(&memory.parser);
+        Digested { memory, segments, state }
+    }
+
+    /// Reads a chunk and remembers what it changes. Answers the line's first three words, and the first header.
+    fn read(&mut self, chunk: &[u8]) -> (String, Header) {
+        match judge(&mut self.memory, chunk) {
+            Verdict::Accepted(frames) => {
+                let mut digest = Digest::default();
+                frames.iter().for_each(|seen| digest.frame(seen));
+                *self = Digested::of(std::mem::take(&mut self.memory));
+                let words = format!("0 {} {}", frames.len(), digest.0);
+                (words, frames.into_iter().next().map(|seen| seen.header).unwrap_or_default())
+            }
+            // The Rust has no numbers, so neither is known here.
+            _ => (String::from("? ? 0"), Header::default()),
+        }
+    }
+
+    fn print(&self, out: &mut impl Write, words: &str) -> io::Result<()> {
+        writeln!(out, "{} {} {}", words, self.segments.0, self.state.0)
+    }
+
+    fn answer(&mut self, out: &mut impl Write, chunk: &[u8]) -> io::Result<()> {
+        let (words, _) = self.read(chunk);
+        self.print(out, &words)
+    }
+
+    /// Parses the chunk n times, as a caller does, and answers the last time. For benchmarks, as are the steps.
+    fn answer_parses(mut self, out: &mut impl Write, chunk: &[u8], n: u32) -> io::Result<()> {
+        if n == 0 {
+            return self.print(out, "0 0 0");
+        }
+        let parser = &mut self.memory.parser;
+        let _ = catch_unwind(AssertUnwindSafe(|| {
+            (1..n).for_each(|_| drop(black_box(parser.parse_chunk(black_box(chunk)))));
+        }));
+        self.answer(out, chunk)
+    }
+
+    /// Answers the chunk with the records that n steps on its first header leave.
+    fn answer_steps(mut self, out: &mut impl Write, chunk: &[u8], n: u32) -> io::Result<()> {
+        let mut segments = self.memory.segments.clone();
+        let (words, header) = self.read(chunk);
+        for _ in 0..n {
+            Segmentation::update_segmentation(black_box(&mut segments), black_box(&header));
+        }
+        self.segments = Digest::of_segments(&segments);
+        self.print(out, &words)
+    }
+}
+
+fn read_number(input: &mut impl Read) -> io::Result<u32> {
+    let mut bytes = [0; 4];
+    input.read_exact(&mut bytes)?;
+    Ok(u32::from_le_bytes(bytes))
+}
+
+/// What ends the run as the input's end does.
+fn ended() -> io::Error {
+    io::ErrorKind::UnexpectedEof.into()
+}
+
+fn read_data(input: &mut impl Read, chunk: &mut Vec<u8>) -> io::Result<()> {
+    let length = read_number(input)? as usize;
+    if length > LARGEST_RECORD {
+        return Err(ended());
+    }
+    chunk.resize(length, 0);
+    input.read_exact(chunk)
+}
+
+/// Reads one record and answers it.
+fn digest_record(
+    input: &mut impl Read,
+    out: &mut impl Write,
+    fresh: &Digested,
+    carried: &mut Digested,
+    chunk: &mut Vec<u8>,
+) -> io::Result<()> {
+    let mut kind = [0];
+    input.read_exact(&mut kind)?;
+    match kind[0] {
+        0 => *carried = fresh.clone(),
+        1 => {
+            read_data(input, chunk)?;
+            carried.answer(out, chunk)?;
+        }
+        kind @ (4 | 5) => {
+            let count = read_number(input)?;
+            read_data(input, chunk)?;
+            let copy = carried.clone();
+            if kind == 4 {
+                copy.answer_parses(out, chunk, count)?;
+            } else {
+                copy.answer_steps(out, chunk, count)?;
+            }
+        }
+        3 => return Err(io::Error::new(io::ErrorKind::Unsupported, "record 3: the Rust's state is private")),
+        _ => return Err(ended()),
+    }
+    Ok(())
+}
+
+fn run_digest(options: &Options, out: &mut impl Write) -> io::Result<()> {
+    let mut input = open(options)?;
+    let fresh = Digested::of(Memory::default());
+    let mut carried = fresh.clone();
+    let mut chunk = Vec::new();
+    loop {
+        if let Err(error) = digest_record(&mut input, out, &fresh, &mut carried, &mut chunk) {
+            return if error.kind() == io::ErrorKind::UnexpectedEof { Ok(()) } else { Err(error) };
+        }
+    }
+}
+
 fn hex_digit(byte: u8) -> Option<u8> {
     match byte {
         b'0'..=b'9' => Some(byte - b'0'),
@@ -401,11 +697,15 @@ fn trim_end(line: &[u8]) -> &[u8] {
     &line[..end]
 }
 
-fn run_hex(options: &Options, out: &mut impl Write) -> io::Result<()> {
-    let mut input: Box<dyn BufRead> = match &options.file {
+fn open(options: &Options) -> io::Result<Box<dyn BufRead>> {
+    Ok(match &options.file {
         Some(name) => Box::new(io::BufReader::with_capacity(1 << 16, std::fs::File::open(name)?)),
         None => Box::new(io::stdin().lock()),
-    };
+    })
+}
+
+fn run_hex(options: &Options, out: &mut impl Write) -> io::Result<()> {
+    let mut input = open(options)?;
     let mut memory = Memory::default();
     let mut number = 0u64;
     let mut line_number = 0u64;
@@ -441,6 +741,9 @@ fn run(options: &Options) -> io::Result<()> {
     let mut out = BufWriter::with_capacity(1 << 16, io::stdout().lock());
     if options.list {
         return run_list(options, &mut out).and_then(|()| out.flush());
+    }
+    if options.digest {
+        return run_digest(options, &mut out).and_then(|()| out.flush());
     }
     match (options.trace, options.input) {
         (true, _) => run_trace(options, &mut out)?,
