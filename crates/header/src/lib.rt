@@ -7,11 +7,6 @@ use bits::Cursor;
 use bits::Next;
 use bits::Refusal;
 use color::Color;
-use enums::BitDepth;
-use enums::ColorRange;
-use enums::ColorSpace;
-use enums::FrameType;
-use enums::InterpolationFilter;
 use enums::Profile;
 use lead::Lead;
 use lead::LeadRead;
@@ -21,10 +16,7 @@ use start::OpeningRead;
 use tail::ClosingRead;
 use tail::Settings;
 use types::Header;
-use types::LoopFilterParams;
-use types::QuantizationParams;
 use types::ReaderState;
-use types::SegmentationParams;
 
 // On a refusal the header is the default one and the state the one before.
 pub struct HeaderRead {
@@ -62,42 +54,7 @@ fn remembered_color(st: ReaderState) -> Color
 fn shown_header(o: Opening) -> Header
     ensures { λ r. ⌜ r ≡ shownHeader o ⌝ }
 {
-    Header {
-        profile: Profile::of_two_bits(o.profile),
-        bit_depth: BitDepth::Depth8,
-        subsampling_x: false,
-        subsampling_y: false,
-        color_space: ColorSpace::Unknown,
-        color_range: ColorRange::StudioSwing,
-        show_existing_frame: true,
-        frame_to_show_map_idx: o.frame_to_show_map_idx,
-        frame_type: FrameType::KeyFrame,
-        show_frame: false,
-        error_resilient_mode: false,
-        width: 0,
-        height: 0,
-        render_and_frame_size_different: false,
-        render_width: 0,
-        render_height: 0,
-        intra_only: false,
-        reset_frame_context: 0,
-        refresh_frame_flags: 0,
-        ref_frame_idx: [0; Header::REFS_PER_FRAME],
-        ref_frame_sign_bias: [0; Header::MAX_REF_FRAMES],
-        allow_high_precision_mv: false,
-        interpolation_filter: InterpolationFilter::EightTap,
-        refresh_frame_context: false,
-        frame_parallel_decoding_mode: false,
-        frame_context_idx: 0,
-        lf: LoopFilterParams::default(),
-        quant: QuantizationParams::default(),
-        seg: SegmentationParams::default(),
-        tile_cols_log2: 0,
-        tile_rows_log2: 0,
-        lossless: false,
-        header_size_in_bytes: 0,
-        uncompressed_header_size_in_bytes: 0,
-    }
+    Header::showing(Profile::of_two_bits(o.profile), o.frame_to_show_map_idx)
 }
 
 fn finish(s: &[u8], c: Cursor, profile: u32, l: Lead, g: Settings, st: ReaderState) -> HeaderRead
