@@ -15,7 +15,7 @@ PARTS = [
     ("enums, settings, header, state", "enums/* types/*"),
     ("the groups of the header", "start/* traits/* sampling/* color/* sizes/* refs/* size_with_refs/* motion/* loop_deltas/* filter/* "
      "quantizer/* feature/* segment_map/* segment_data/* segmentation/* tiles/*"),
-    ("the whole header, record and state", "picture/* inter/* lead/* tail/* slots/* record/* header/*"),
+    ("the whole header, record and state", "picture/* inter/* lead/* tail/* slots/* outcome/* header/*"),
     ("a frame, a chunk, the choice", "frame/* index/* chunk/* choice/*"),
     ("the segment records", "tables/* clamp/* quant/* levels/* segments/*"),
     ("IVF files and the listing", "ivf/* recording/* text/* arriving/* line/* frame_line/* listing/*"),

@@ -1,6 +1,6 @@
 // A frame's header, with the filter, quantizer and segmentation settings that hold for the frame.
 ghost use mathlib.Core.Path.{_≡_};
-ghost use Rattle.types.specs.Header.{defaultHeader};
+ghost use Rattle.types.specs.Header.{bareHeader, defaultHeader, showingHeader};
 use crate::loop_filter::LoopFilterParams;
 use crate::quantization::QuantizationParams;
 use crate::segmentation::SegmentationParams;
@@ -53,18 +53,19 @@ impl Header {
 
     pub const MAX_REF_FRAMES: usize = 4;
 
-    pub fn default() -> Self
-        ensures { λ r. ⌜ r ≡ defaultHeader ⌝ }
+    // Depth 8 and the eight-tap filter, and else 0 or false.
+    fn bare(profile: Profile, shown: bool, slot: u8) -> Self
+        ensures { λ r. ⌜ r ≡ bareHeader profile shown slot ⌝ }
     {
         Self {
-            profile: Profile::Profile0,
+            profile,
             bit_depth: BitDepth::Depth8,
             subsampling_x: false,
             subsampling_y: false,
             color_space: ColorSpace::Unknown,
             color_range: ColorRange::StudioSwing,
-            show_existing_frame: false,
-            frame_to_show_map_idx: 0,
+            show_existing_frame: shown,
+            frame_to_show_map_idx: slot,
             frame_type: FrameType::KeyFrame,
             show_frame: false,
             error_resilient_mode: false,
@@ -92,5 +93,18 @@ impl Header {
             header_size_in_bytes: 0,
             uncompressed_header_size_in_bytes: 0,
         }
+    }
+
+    pub fn default() -> Self
+        ensures { λ r. ⌜ r ≡ defaultHeader ⌝ }
+    {
+        Self::bare(Profile::Profile0, false, 0)
+    }
+
+    // A header that only names a slot to show.
+    pub fn showing(profile: Profile, slot: u8) -> Self
+        ensures { λ r. ⌜ r ≡ showingHeader profile slot ⌝ }
+    {
+        Self::bare(profile, true, slot)
     }
 }

@@ -1,5 +1,5 @@
-use Rattle.header.proofs.range_after.Statement.{statement}
-use Rattle.header.proofs.range_after.Tie as tie
+use Rattle.outcome.proofs.range_after.Statement.{statement}
+use Rattle.outcome.proofs.range_after.Tie as tie
 
 returns : tie.Need-returns
 returns c = rw (c .if1 .taken)

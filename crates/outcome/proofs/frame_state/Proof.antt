@@ -1,7 +1,7 @@
-use Rattle.header.specs.State.{frameState}
+use Rattle.outcome.specs.State.{frameState}
 use borrow.Author.Needs.{needs}
-use Rattle.header.proofs.frame_state.Statement.{statement}
-use Rattle.header.proofs.frame_state.Tie as tie
+use Rattle.outcome.proofs.frame_state.Statement.{statement}
+use Rattle.outcome.proofs.frame_state.Tie as tie
 
 range-after-requires : tie.Need-range-after-requires
 range-after-requires c κs = search needs

@@ -1,7 +1,7 @@
--- `Header::default` meets its contract: each part is its own default. Assumes nothing.
+-- `Header::bare` meets its contract: each part is its own default. Assumes nothing.
 use borrow.Author.Needs.{needs}
-use Rattle.types.proofs.header.Header.default.Statement.{statement}
-use Rattle.types.proofs.header.Header.default.Tie as tie
+use Rattle.types.proofs.header.Header.bare.Statement.{statement}
+use Rattle.types.proofs.header.Header.bare.Tie as tie
 
 default-requires : tie.Need-default-requires
 default-requires c κs = search needs
@@ -16,5 +16,5 @@ returns : tie.Need-returns
 returns c =
     rw (c .before .before .default .ensures, c .before .default2 .ensures, c .default3 .ensures)
 
-pub default-spec : {M : Type 1} → statement M
-default-spec = tie.close (tie.spec default-requires default-requires-2 default-requires-3 returns)
+pub bare-spec : {M : Type 1} → statement M
+bare-spec = tie.close (tie.spec default-requires default-requires-2 default-requires-3 returns)
