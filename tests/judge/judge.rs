@@ -59,7 +59,7 @@ mod stub {
 }
 
 use codec::vp9::parser::{
-    FrameType, Header, LoopFilterParams, Parser, QuantizationParams, Segmentation, SegmentationParams,
+    Frame, FrameType, Header, LoopFilterParams, Parser, QuantizationParams, Segmentation, SegmentationParams,
     MAX_SEGMENTS,
 };
 use std::fmt;
@@ -133,11 +133,12 @@ struct Options {
     digest: bool,
     records: bool,
     state: bool,
+    restore: bool,
     file: Option<String>,
 }
 
 const USAGE: &str = "usage: judge [--brief | --quiet-state] (--hex | --ivf) [FILE]
-       judge (--trace | --list | --digest) [FILE]
+       judge (--trace | --list | --digest [--restore]) [FILE]
 FILE is - or left out for standard input; --trace and --list take an IVF file,
 --digest the records of tests/reader/DIGEST.md";
 
@@ -149,6 +150,7 @@ fn read_options() -> Option<Options> {
         digest: false,
         records: true,
         state: true,
+        restore: false,
         file: None,
     };
     for arg in std::env::args().skip(1) {
@@ -161,6 +163,7 @@ fn read_options() -> Option<Options> {
             }
             "--list" => options.list = true,
             "--digest" => options.digest = true,
+            "--restore" => options.restore = true,
             "--brief" => {
                 options.records = false;
                 options.state = false;
@@ -327,7 +330,7 @@ fn run_ivf(options: &Options, out: &mut impl Write) -> io::Result<()> {
     Ok(())
 }
 
-/// The plain listing as a caller of the Rust would write it, for tests/listing/measure.py: nothing is cloned, no panic is caught.
+/// The plain listing as a caller of the Rust would write it, for bench/run: nothing is cloned, no panic is caught.
 fn run_list(options: &Options, out: &mut impl Write) -> io::Result<()> {
     let file = read_all(&options.file)?;
     writeln!(out, "chunk frame kind at size width height refresh hdr")?;
@@ -547,6 +550,19 @@ fn variant_number(word: &str) -> u64 {
     }
 }
 
+/// One parse by a caller of the Rust. `black_box` keeps the compiler from leaving out what isn't looked at.
+fn parse<'a>(parser: &mut Parser, chunk: &'a [u8], restore: bool) -> Result<Vec<Frame<'a>>, String> {
+    if !restore {
+        return parser.parse_chunk(black_box(chunk));
+    }
+    let before = parser.clone();
+    let parsed = parser.parse_chunk(black_box(chunk));
+    if parsed.is_err() {
+        *parser = before;
+    }
+    parsed
+}
+
 /// What is carried from chunk to chunk, with its two digests.
 #[derive(Clone)]
 struct Digested {
@@ -587,13 +603,13 @@ impl Digested {
     }
 
     /// Parses the chunk n times, as a caller does, and answers the last time. For benchmarks.
-    fn answer_parses(mut self, out: &mut impl Write, chunk: &[u8], n: u32) -> io::Result<()> {
+    fn answer_parses(mut self, out: &mut impl Write, chunk: &[u8], n: u32, restore: bool) -> io::Result<()> {
         if n == 0 {
             return self.print(out, "0 0 0");
         }
         let parser = &mut self.memory.parser;
         let _ = catch_unwind(AssertUnwindSafe(|| {
-            (1..n).for_each(|_| drop(black_box(parser.parse_chunk(black_box(chunk)))));
+            (1..n).for_each(|_| drop(black_box(parse(parser, chunk, restore))));
         }));
         self.answer(out, chunk)
     }
@@ -637,6 +653,7 @@ fn digest_record(
     fresh: &Digested,
     carried: &mut Digested,
     chunk: &mut Vec<u8>,
+    restore: bool,
 ) -> io::Result<()> {
     let mut kind = [0];
     input.read_exact(&mut kind)?;
@@ -651,7 +668,7 @@ fn digest_record(
             read_data(input, chunk)?;
             let copy = carried.clone();
             if kind == 4 {
-                copy.answer_parses(out, chunk, count)?;
+                copy.answer_parses(out, chunk, count, restore)?;
             } else {
                 copy.answer_steps(out, chunk, count)?;
             }
@@ -671,7 +688,7 @@ fn run_digest(options: &Options, out: &mut impl Write) -> io::Result<()> {
     let mut carried = fresh.clone();
     let mut chunk = Vec::new();
     loop {
-        if let Err(error) = digest_record(&mut input, out, &fresh, &mut carried, &mut chunk) {
+        if let Err(error) = digest_record(&mut input, out, &fresh, &mut carried, &mut chunk, options.restore) {
             return if error.kind() == io::ErrorKind::UnexpectedEof { Ok(()) } else { Err(error) };
         }
     }

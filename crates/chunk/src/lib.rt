@@ -66,7 +66,7 @@ fn refused(answer: Answer, st: ReaderState) -> ChunkRead
         answer,
         at: [0usize; MAX_FRAMES_IN_SUPERFRAME],
         size: [0usize; MAX_FRAMES_IN_SUPERFRAME],
-        headers: [Header::default(); MAX_FRAMES_IN_SUPERFRAME],
+        headers: [Header::DEFAULT; MAX_FRAMES_IN_SUPERFRAME],
         state: st,
     }
 }
@@ -78,7 +78,7 @@ fn parse_frames(chunk: &[u8], places: Split, count: usize, st: ReaderState) -> C
 {
     let at = places.at;
     let size = places.size;
-    let mut headers = [Header::default(); MAX_FRAMES_IN_SUPERFRAME];
+    let mut headers = [Header::DEFAULT; MAX_FRAMES_IN_SUPERFRAME];
     let mut state = st;
     for i in 0..count {
         let from = at[i];

@@ -1,6 +1,6 @@
 // A frame's header, with the filter, quantizer and segmentation settings that hold for the frame.
 ghost use mathlib.Core.Path.{_≡_};
-ghost use Rattle.types.specs.Header.{bareHeader, defaultHeader, showingHeader};
+ghost use Rattle.types.specs.Header.{defaultHeader, showingHeader};
 use crate::loop_filter::LoopFilterParams;
 use crate::quantization::QuantizationParams;
 use crate::segmentation::SegmentationParams;
@@ -53,9 +53,53 @@ impl Header {
 
     pub const MAX_REF_FRAMES: usize = 4;
 
-    // Depth 8 and the eight-tap filter, and else 0 or false.
-    fn bare(profile: Profile, shown: bool, slot: u8) -> Self
-        ensures { λ r. ⌜ r ≡ bareHeader profile shown slot ⌝ }
+    // A call's answer is copied; a constant is written where it is wanted, which makes eight of them in a row cheap.
+    pub const DEFAULT: Self = Self {
+        profile: Profile::Profile0,
+        bit_depth: BitDepth::Depth8,
+        subsampling_x: false,
+        subsampling_y: false,
+        color_space: ColorSpace::Unknown,
+        color_range: ColorRange::StudioSwing,
+        show_existing_frame: false,
+        frame_to_show_map_idx: 0,
+        frame_type: FrameType::KeyFrame,
+        show_frame: false,
+        error_resilient_mode: false,
+        width: 0,
+        height: 0,
+        render_and_frame_size_different: false,
+        render_width: 0,
+        render_height: 0,
+        intra_only: false,
+        reset_frame_context: 0,
+        refresh_frame_flags: 0,
+        ref_frame_idx: [0; Self::REFS_PER_FRAME],
+        ref_frame_sign_bias: [0; Self::MAX_REF_FRAMES],
+        allow_high_precision_mv: false,
+        interpolation_filter: InterpolationFilter::EightTap,
+        refresh_frame_context: false,
+        frame_parallel_decoding_mode: false,
+        frame_context_idx: 0,
+        lf: LoopFilterParams::DEFAULT,
+        quant: QuantizationParams::DEFAULT,
+        seg: SegmentationParams::DEFAULT,
+        tile_cols_log2: 0,
+        tile_rows_log2: 0,
+        lossless: false,
+        header_size_in_bytes: 0,
+        uncompressed_header_size_in_bytes: 0,
+    };
+
+    pub fn default() -> Self
+        ensures { λ r. ⌜ r ≡ defaultHeader ⌝ }
+    {
+        Self::DEFAULT
+    }
+
+    // A header that only names a slot to show. No field that is an enum can be written, so the default isn't changed but said again.
+    pub fn showing(profile: Profile, slot: u8) -> Self
+        ensures { λ r. ⌜ r ≡ showingHeader profile slot ⌝ }
     {
         Self {
             profile,
@@ -64,7 +108,7 @@ impl Header {
             subsampling_y: false,
             color_space: ColorSpace::Unknown,
             color_range: ColorRange::StudioSwing,
-            show_existing_frame: shown,
+            show_existing_frame: true,
             frame_to_show_map_idx: slot,
             frame_type: FrameType::KeyFrame,
             show_frame: false,
@@ -84,27 +128,14 @@ impl Header {
             refresh_frame_context: false,
             frame_parallel_decoding_mode: false,
             frame_context_idx: 0,
-            lf: LoopFilterParams::default(),
-            quant: QuantizationParams::default(),
-            seg: SegmentationParams::default(),
+            lf: LoopFilterParams::DEFAULT,
+            quant: QuantizationParams::DEFAULT,
+            seg: SegmentationParams::DEFAULT,
             tile_cols_log2: 0,
             tile_rows_log2: 0,
             lossless: false,
             header_size_in_bytes: 0,
             uncompressed_header_size_in_bytes: 0,
         }
-    }
-
-    pub fn default() -> Self
-        ensures { λ r. ⌜ r ≡ defaultHeader ⌝ }
-    {
-        Self::bare(Profile::Profile0, false, 0)
-    }
-
-    // A header that only names a slot to show.
-    pub fn showing(profile: Profile, slot: u8) -> Self
-        ensures { λ r. ⌜ r ≡ showingHeader profile slot ⌝ }
-    {
-        Self::bare(profile, true, slot)
     }
 }

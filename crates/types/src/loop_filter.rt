@@ -20,19 +20,21 @@ impl LoopFilterParams {
 
     pub const MAX_LOOP_FILTER: u32 = 63;
 
+    pub const DEFAULT: Self = Self {
+        level: 0,
+        sharpness: 0,
+        delta_enabled: false,
+        delta_update: false,
+        update_ref_delta: [false; Self::MAX_REF_LF_DELTAS],
+        ref_deltas: [0; Self::MAX_REF_LF_DELTAS],
+        update_mode_delta: [false; Self::MAX_MODE_LF_DELTAS],
+        mode_deltas: [0; Self::MAX_MODE_LF_DELTAS],
+    };
+
     pub fn default() -> Self
         ensures { λ r. ⌜ r ≡ defaultFilter ⌝ }
     {
-        Self {
-            level: 0,
-            sharpness: 0,
-            delta_enabled: false,
-            delta_update: false,
-            update_ref_delta: [false; Self::MAX_REF_LF_DELTAS],
-            ref_deltas: [0; Self::MAX_REF_LF_DELTAS],
-            update_mode_delta: [false; Self::MAX_MODE_LF_DELTAS],
-            mode_deltas: [0; Self::MAX_MODE_LF_DELTAS],
-        }
+        Self::DEFAULT
     }
 
     // What a frame that owes nothing to earlier frames starts from.

@@ -10,14 +10,16 @@ pub struct QuantizationParams {
 }
 
 impl QuantizationParams {
+    pub const DEFAULT: Self = Self {
+        base_q_idx: 0,
+        delta_q_y_dc: 0,
+        delta_q_uv_dc: 0,
+        delta_q_uv_ac: 0,
+    };
+
     pub fn default() -> Self
         ensures { λ r. ⌜ r ≡ defaultQuantization ⌝ }
     {
-        Self {
-            base_q_idx: 0,
-            delta_q_y_dc: 0,
-            delta_q_uv_dc: 0,
-            delta_q_uv_ac: 0,
-        }
+        Self::DEFAULT
     }
 }

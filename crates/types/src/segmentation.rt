@@ -35,20 +35,22 @@ impl SegmentationParams {
 
     pub const PREDICTION_PROBS: usize = 3;
 
+    pub const DEFAULT: Self = Self {
+        enabled: false,
+        update_map: false,
+        tree_probs: [0; Self::SEG_TREE_PROBS],
+        pred_probs: [0; Self::PREDICTION_PROBS],
+        temporal_update: false,
+        update_data: false,
+        abs_or_delta_update: false,
+        feature_enabled: [false; Self::FEATURES],
+        feature_data: [0; Self::FEATURES],
+    };
+
     pub fn default() -> Self
         ensures { λ r. ⌜ r ≡ defaultSegmentation ⌝ }
     {
-        Self {
-            enabled: false,
-            update_map: false,
-            tree_probs: [0; Self::SEG_TREE_PROBS],
-            pred_probs: [0; Self::PREDICTION_PROBS],
-            temporal_update: false,
-            update_data: false,
-            abs_or_delta_update: false,
-            feature_enabled: [false; Self::FEATURES],
-            feature_data: [0; Self::FEATURES],
-        }
+        Self::DEFAULT
     }
 
     // What a frame that owes nothing to earlier frames starts from.

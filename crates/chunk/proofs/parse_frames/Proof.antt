@@ -12,11 +12,8 @@ Inv-loop chunk count st at size headers₀ state₀ i₀ headers state i = Walke
 abbrev μ-loop : tie.MeasureT-loop
 μ-loop chunk count st at size headers₀ state₀ i₀ headers state i = count - i
 
-default-requires : tie.Need-default-requires Inv-loop μ-loop
-default-requires c κs = search needs
-
 loop-holds : tie.Need-loop-holds Inv-loop μ-loop
-loop-holds c = rw (c .default .ensures) (walked-none _ (c .before .before .before .before .pre .0) (c .before .before .before .before .pre .1))
+loop-holds c = walked-none _ (c .before .before .before .pre .0) (c .before .before .before .pre .1)
 
 mul-from : tie.Need-mul-from Inv-loop μ-loop
 mul-from c = search needs
@@ -85,7 +82,6 @@ parse-frames-spec =
     (tie.spec
     Inv-loop
     μ-loop
-    default-requires
     loop-holds
     mul-from
     array-read-from
