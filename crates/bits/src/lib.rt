@@ -1,5 +1,7 @@
 // Reads a field of at most 31 bits, high bit first, at any bit of a slice; and the answers that every reader above shares.
+ghost use Prim.Native.Nat.{_/_, _<_};
 ghost use mathlib.Core.Path.{_≡_};
+ghost use lib.ListN.{length};
 ghost use Rattle.bits.specs.Bit.{bitAt};
 ghost use Rattle.bits.specs.Read.{readBits, readBitsIf};
 ghost use Rattle.bits.specs.Refusal.{refusalNumber};
@@ -54,18 +56,14 @@ pub enum Next {
     Refused(Refusal),
 }
 
-// The bit at a place, 0 past the end.
+// The bit at a place that the slice has.
 fn bit_at(s: &[u8], p: usize) -> u32
+    requires { ⌜ p / 8 < length (now s) ⌝ }
     ensures { λ r. ⌜ r ≡ bitAt (now (s .entry)) p ⌝ }
 {
-    let q = p / 8;
-    if q < s.len() {
-        let b = s[q];
-        let t = (b >> (7 - p % 8)) % 2;
-        t as u32
-    } else {
-        0
-    }
+    let b = s[p / 8];
+    let t = (b >> (7 - p % 8)) % 2;
+    t as u32
 }
 
 pub fn read_bits(s: &[u8], c: Cursor, n: usize) -> Bits

@@ -1,7 +1,3 @@
-use native.Mathlib.Nat.{zero-div, zero-mod}
-use denote.Ref.{now}
-use Prim.Native.Nat.{ℕ}
-use lib.ListN.{List·getD-eq-default}
 use Rattle.bits.specs.Bit.{bitAt}
 use borrow.Author.Needs.{needs}
 use Rattle.bits.proofs.bit_at.Statement.{statement}
@@ -26,10 +22,6 @@ returns : tie.Need-returns
 unfolding bitAt
 returns c = search needs
 
-returns-2 : tie.Need-returns-2
-unfolding bitAt
-returns-2 c = simp (List·getD-eq-default {A = ℕ} (now (c .before .args .s)) 0 (c .if1 .left), zero-div, zero-mod)
-
 pub bit-at-spec : {M : Type 1} → statement M
 bit-at-spec =
-    tie.close (tie.spec shared-slice-read-b sub-t cast-t shr-t cast-result returns returns-2)
+    tie.close (tie.spec shared-slice-read-b sub-t cast-t shr-t cast-result returns)

@@ -54,7 +54,7 @@ add-bit-at : tie.Need-add-bit-at Inv-loop μ-loop
 add-bit-at c = omega arith
 
 bit-at-requires : tie.Need-bit-at-requires Inv-loop μ-loop
-bit-at-requires c κs = tt
+bit-at-requires c κs = omega arith
 
 add-v : tie.Need-add-v Inv-loop μ-loop
 add-v c = let a = c .before .before .before .before .before .before .before .before .before .args in omega (arith, number-small (now (a .s)) (a .c .at) (c .before .before .loop .k) (omega arith), bit-lt (now (a .s)) (a .c .at + c .before .before .loop .k))
