@@ -139,11 +139,20 @@ struct Options {
 
 const USAGE: &str = "usage: judge [--brief | --quiet-state] (--hex | --ivf) [FILE]
        judge (--trace | --list | --digest [--restore]) [FILE]
-FILE is - or left out for standard input; --trace and --list take an IVF file, --digest the records of tests/reader/DIGEST.md";
+FILE is - or left out for standard input; --trace and --list take an IVF file,
+--digest the records of tests/reader/DIGEST.md";
 
 fn read_options() -> Option<Options> {
-    let mut options =
-        Options { input: Input::Hex, trace: false, list: false, digest: false, records: true, state: true, restore: false, file: None };
+    let mut options = Options {
+        input: Input::Hex,
+        trace: false,
+        list: false,
+        digest: false,
+        records: true,
+        state: true,
+        restore: false,
+        file: None,
+    };
     for arg in std::env::args().skip(1) {
         match arg.as_str() {
             "--hex" => options.input = Input::Hex,
@@ -473,7 +482,7 @@ impl Digest {
     }
 }
 
-/// Takes in the text of a parser, whose fields are private: each word that isn't a field's name is a value.
+/// Takes in the text of a parser, whose fields are private: a word that names no field or record is a value.
 #[derive(Default)]
 struct StateDigest {
     digest: Digest,
@@ -569,7 +578,7 @@ impl Digested {
         Digested { memory, segments, state }
     }
 
-    /// Reads a chunk and remembers what it changes. Answers the line's first three words, and the first header.
+    /// Reads a chunk and remembers what it changes. Answers the line's first three words and the first header.
     fn read(&mut self, chunk: &[u8]) -> (String, Header) {
         match judge(&mut self.memory, chunk) {
             Verdict::Accepted(frames) => {
@@ -593,7 +602,7 @@ impl Digested {
         self.print(out, &words)
     }
 
-    /// Parses the chunk n times, as a caller does, and answers the last time.
+    /// Parses the chunk n times, as a caller does, and answers the last time. For benchmarks.
     fn answer_parses(mut self, out: &mut impl Write, chunk: &[u8], n: u32, restore: bool) -> io::Result<()> {
         if n == 0 {
             return self.print(out, "0 0 0");
@@ -605,7 +614,7 @@ impl Digested {
         self.answer(out, chunk)
     }
 
-    /// Answers the chunk with the records that n steps on its first header leave.
+    /// Answers the chunk with the records that n steps on its first header leave. For benchmarks.
     fn answer_steps(mut self, out: &mut impl Write, chunk: &[u8], n: u32) -> io::Result<()> {
         let mut segments = self.memory.segments.clone();
         let (words, header) = self.read(chunk);
@@ -664,7 +673,10 @@ fn digest_record(
                 copy.answer_steps(out, chunk, count)?;
             }
         }
-        3 => return Err(io::Error::new(io::ErrorKind::Unsupported, "record 3: the Rust's state is private")),
+        3 => {
+            let message = "record 3: the Rust's state is private";
+            return Err(io::Error::new(io::ErrorKind::Unsupported, message));
+        }
         _ => return Err(ended()),
     }
     Ok(())

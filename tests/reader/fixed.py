@@ -108,15 +108,32 @@ def answer(asked, line):
     return " ".join(words) + "\n"
 
 
+def counted():
+    """The records for benchmarks, on document 01's accepted example chunks."""
+    return [program.FRESH + b"".join(map(program.record, before)) + program.counted(kind, count, chunk)
+            for _, before, chunk in inputs.EXAMPLES if not Asked(chunk, expect.State()).refusal
+            for kind in (4, 5) for count in (0, 1, 3)]
+
+
+def series_input(chunks):
+    return program.FRESH + b"".join(program.record(asked.chunk) for asked in chunks)
+
+
+def rust_lines(judge, given):
+    run = subprocess.run([judge, "--digest"], input=given, stdout=subprocess.PIPE, check=True)
+    return run.stdout.decode().splitlines()
+
+
 def make(judge):
     """The input and the answers."""
-    series = [asked for asked in map(on_the_domain, all_series()) if asked]
-    given = b"".join(program.FRESH + b"".join(program.record(asked.chunk) for asked in chunks) for chunks in series)
-    lines = subprocess.run([judge, "--digest"], input=given, stdout=subprocess.PIPE, check=True).stdout.decode().splitlines()
+    series = [chunks for chunks in map(on_the_domain, all_series()) if chunks]
     put = [asked for chunks in series for asked in chunks]
-    answers = [answer(asked, line) for asked, line in zip(put, lines, strict=True)]
+    given = b"".join(map(series_input, series)) + b"".join(counted())
+    lines = rust_lines(judge, given)
+    answers = [answer(asked, line) for asked, line in zip(put, lines)]
+    answers += [line + "\n" for line in lines[len(put):]]
     refused = sum(asked.refusal is not None for asked in put)
-    print(f"{len(series)} series, {len(put)} chunks, {refused} of them refused")
+    print(f"fixed list: {len(series)} series, {len(put)} chunks, {refused} of them refused; {len(answers)} lines")
     return {"stdin": given, "stdout": "".join(answers).encode()}
 
 

@@ -13,11 +13,21 @@ LONGEST = 65536
 FRESH = b"\0"
 
 
-def record(chunk):
-    """A chunk as the program reads it."""
+def sized(chunk):
+    """A chunk with its length."""
     if len(chunk) > LONGEST:
         raise ValueError(f"a chunk of {len(chunk)} bytes: the program ends at one over {LONGEST}")
-    return b"\1" + struct.pack("<I", len(chunk)) + chunk
+    return struct.pack("<I", len(chunk)) + chunk
+
+
+def record(chunk):
+    """A chunk as the program reads it."""
+    return b"\1" + sized(chunk)
+
+
+def counted(kind, count, chunk):
+    """A chunk for a benchmark, as DIGEST.md has it: kind 4, so many parses; kind 5, so many segment steps."""
+    return bytes([kind]) + struct.pack("<I", count) + sized(chunk)
 
 
 def kit_tools():

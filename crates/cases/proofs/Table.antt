@@ -35,6 +35,8 @@ use Rattle.lead.specs.Shot as Shot
 use Rattle.tail.specs.Closing as Closing
 use Rattle.tail.specs.Settings as Settings
 use Rattle.slots.specs.Slots as Slots
+use Rattle.outcome.specs.Record.{frameHeader}
+use Rattle.outcome.specs.State.{frameState}
 use Rattle.header.specs.Answer as Answer
 use Rattle.header.specs.Frame as Frame
 use Rattle.header.specs.Header as Header
@@ -70,8 +72,8 @@ unfolding
     Motion.motionOf Sources.sourcesFields Sources.readSources Sources.sourcesOf Lead.leadFields Lead.readLead
     Lead.leadOf Shot.shotFields Shot.readShot Shot.shotOf Closing.closingFields Closing.readClosing Closing.closingOf
     Settings.settingsFields Settings.readSettings Settings.settingsOver Slots.each Answer.parsed Frame.frameFields
-    Frame.readFrame Header.headerFields Header.readHeader Record.shownHeader Record.frameHeader Record.headerOf
-    State.frameState State.stateAfter Little.little Layout.announced Layout.cut Layout.indexed Layout.layoutOf
+    Frame.readFrame Header.headerFields Header.readHeader Record.shownHeader frameHeader Record.headerOf
+    frameState State.stateAfter Little.little Layout.announced Layout.cut Layout.indexed Layout.layoutOf
     Layout.start Split.filled Split.first Split.firstPast Split.placed Split.splitOf Frames.stateBefore
     Frames.frameRead Frames.firstFault Chunk.chunkOf Features.featuresOf Features.featuresIn Levels.levelsOf
     Levels.levelsAt Levels.deltaGrid Levels.pairOf Levels.segmentLevel Levels.moved Levels.scaled Clamp.clampTo

@@ -11,9 +11,9 @@ use Rattle.bits.specs.declared.Refusal.{Refusal}
 use Rattle.types.specs.Header.{defaultHeader}
 use Rattle.types.specs.declared.header.Header.{Header}
 use Rattle.types.specs.declared.state.ReaderState.{ReaderState}
+use Rattle.outcome.specs.declared.Verdict.{Verdict}
+use Rattle.outcome.specs.declared.Verdict.the-variants.{Accepted, Refused}
 use Rattle.header.specs.declared.HeaderRead.{HeaderRead}
-use Rattle.header.specs.declared.Verdict.{Verdict}
-use Rattle.header.specs.declared.Verdict.the-variants.{Accepted, Refused}
 use Rattle.header.specs.Answer.{parsed}
 use Rattle.index.specs.declared.Answer.{Answer as SplitAnswer}
 use Rattle.index.specs.declared.Answer.the-variants.{Frames}

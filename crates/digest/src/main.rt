@@ -297,6 +297,7 @@ fn which(answer: Answer) -> usize {
     }
 }
 
+// How many digits a number has.
 fn places(n: u64) -> usize
     ensures { λ r. ⌜ r ≤ 20 ⌝ }
 {
@@ -314,7 +315,7 @@ fn digit(n: u64) -> u8 {
     (48 + n % 10) as u8
 }
 
-// The number's digits and a byte after them. Written here, since text::put_number takes a third of a line's time under the emulator.
+// The number's digits and a byte after them. text::put_number would copy them once more.
 fn put(out: &mut [u8], at: usize, n: u64, end: u8) -> usize {
     let k = places(n);
     if at > out.len() {
@@ -385,7 +386,7 @@ fn stepped(header: Header, old: [Segmentation; 8], n: u64) -> [Segmentation; 8] 
     new
 }
 
-// The records that are told.
+// The records of which the line has the digest.
 fn last_records(
     work: Work,
     header: Header,
@@ -398,7 +399,7 @@ fn last_records(
     }
 }
 
-// What the line of a chunk says, and what is remembered after it.
+// What the line of a chunk says, and the state and the records after it.
 struct Told {
     answer: Answer,
     frames: u32,
@@ -473,7 +474,7 @@ fn flag_at(s: &[u8], i: usize) -> bool {
     byte_at(s, i) == 1
 }
 
-// What stands from `at` on.
+// What stands from `at` on, which is never past the end.
 fn rest(s: &[u8], at: usize) -> &[u8] {
     if at > s.len() {
         return s;
@@ -841,6 +842,7 @@ struct After {
     series: Series,
 }
 
+// What is remembered after a chunk.
 fn kept(work: Work, told: Told, series: Series) -> Series {
     let after = told.after;
     match work {

@@ -1,7 +1,7 @@
 // A single frame of a chunk, at an offset and of a size.
 ghost use mathlib.Core.Path.{_≡_};
 ghost use Rattle.frame.specs.Place.{placeNumber, outsideFrame, framePlaced};
-use header::Verdict;
+use outcome::Verdict;
 use types::Header;
 use types::ReaderState;
 

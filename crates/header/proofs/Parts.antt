@@ -29,12 +29,13 @@ use Rattle.tail.specs.declared.ClosingRead.the-variants.{Value as Closes, Short
 use Rattle.tail.specs.Settings.{readSettings, startingFilter, startingSegmentation, settingsOf, SettingsAre}
 use Rattle.tail.specs.Closing.{readClosing, closingOf, viewClosing}
 use Rattle.tail.proofs.Steps.{closing-got, closing-short}
+use Rattle.outcome.specs.Record.{independent, cutLength, frameHeader}
+use Rattle.outcome.specs.State.{frameState}
 use Rattle.header.specs.declared.HeaderRead.{HeaderRead}
 use Rattle.header.specs.Header.{showsExisting, profileOf}
-use Rattle.header.specs.Record.{rememberedColor, independent, shownHeader, frameHeader}
-use Rattle.header.specs.State.{frameState}
+use Rattle.header.specs.Record.{rememberedColor, shownHeader}
 use Rattle.header.specs.Answer.{accepted, refusedWith, outcome, parsed}
-use Rattle.header.specs.Parts.{cutLength, widthOf, finished, settled, framed}
+use Rattle.header.specs.Parts.{widthOf, finished, settled, framed}
 use Rattle.header.proofs.Outcomes.{came, came-not}
 
 module _ (st : ReaderState) (profile : ℕ) (s : List ℕ) (p : ℕ) where
@@ -43,8 +44,8 @@ module _ (st : ReaderState) (profile : ℕ) (s : List ℕ) (p : ℕ) where
       pub finish-short : (y : HeaderRead) → r ≡ Short → y ≡ refusedWith st PastEnd → y ≡ finished st profile l g s p
       finish-short y h ey = came-not st (closingOf (widthOf l)) (readClosing (widthOf l) s p) _ PastEnd y ey (closing-short r e h)
 
-      pub finish-read : (v : Closing) (c : Cursor) (n : ℕ) (h : Header) (x : ReaderState) → r ≡ Closes v c → n ≡ cutLength (c .at) → h ≡ frameHeader profile l g v n → x ≡ frameState st profile l g → accepted h x ≡ finished st profile l g s p
-      finish-read v c n h x t en eh ex = came st (closingOf (widthOf l)) (readClosing (widthOf l) s p) _ v (c .at) _ (closing-got r v c e t) (λ a ea. rw (eh, ex, en, ea))
+      pub finish-read : (v : Closing) (c : Cursor) (h : Header) (x : ReaderState) → r ≡ Closes v c → h ≡ frameHeader profile l g v (cutLength (c .at)) → x ≡ frameState st profile l g → accepted h x ≡ finished st profile l g s p
+      finish-read v c h x t eh ex = came st (closingOf (widthOf l)) (readClosing (widthOf l) s p) _ v (c .at) _ (closing-got r v c e t) (λ a ea. rw (eh, ex, ea))
 
     module _ (b : Bool) (eb : b ≡ independent l) (r : SettingsRead) (e : SettingsAre s p (startingFilter b (st .lf)) (startingSegmentation b (st .seg)) r) where
       pub settle-short : (u : Refusal) (y : HeaderRead) → r .next ≡ Stop u → y ≡ refusedWith st u → y ≡ settled st profile l s p

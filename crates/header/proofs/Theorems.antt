@@ -18,13 +18,14 @@ use Rattle.bits.proofs.Laws.{unique}
 use Rattle.bits.proofs.Told.{past-end-exactly, mark-exactly}
 use Rattle.types.specs.declared.size.FrameSize.{FrameSize}
 use Rattle.types.specs.declared.state.ReaderState.{ReaderState}
+use Rattle.outcome.specs.declared.Verdict.the-variants.{Accepted, Refused}
+use Rattle.outcome.specs.Record.{lengthOf, frameHeader}
 use Rattle.header.specs.Header.{HeaderValues, showsExisting, headerFields, HeaderLacks, readHeader}
 use Rattle.header.specs.Spelled.{Spelled}
-use Rattle.header.specs.Record.{lengthOf, shownHeader, frameHeader, headerOf}
+use Rattle.header.specs.Record.{shownHeader, headerOf}
 use Rattle.header.specs.State.{stateAfter}
 use Rattle.header.specs.Answer.{accepted, refusedWith, outcome, parsed}
 use Rattle.header.specs.declared.HeaderRead.{HeaderRead}
-use Rattle.header.specs.declared.Verdict.the-variants.{Accepted, Refused}
 use Rattle.header.proofs.Laws.{header-reads, header-size}
 
 module _ (s : List ℕ) (slots : List FrameSize) (v : HeaderValues) where

@@ -23,13 +23,15 @@ use Rattle.lead.specs.Shot.{ShotValues, isIntraOnly, shotSize, shotOf}
 use Rattle.lead.specs.Lead.{LeadValues, readLead, isIndependent, leadOf}
 use Rattle.tail.specs.Settings.{SettingsValues, readSettings, settingsOf}
 use Rattle.tail.specs.Closing.{ClosingValues, readClosing, closingOf}
+use Rattle.outcome.specs.Record.{independent, lengthOf, cutLength, frameHeader}
+use Rattle.outcome.specs.State.{frameState}
 use Rattle.header.specs.declared.HeaderRead.{HeaderRead}
 use Rattle.header.specs.Frame.{FrameValues, noFrame, frameWidth, readFrame}
 use Rattle.header.specs.Header.{HeaderValues, showsExisting, profileOf, headerFields, readHeader}
-use Rattle.header.specs.Record.{rememberedColor, lengthOf, independent, shownHeader, frameHeader, headerOf}
-use Rattle.header.specs.State.{frameState, stateAfter}
+use Rattle.header.specs.Record.{rememberedColor, shownHeader, headerOf}
+use Rattle.header.specs.State.{stateAfter}
 use Rattle.header.specs.Answer.{accepted, outcome, parsed}
-use Rattle.header.specs.Parts.{cutLength, widthOf, finished, framed}
+use Rattle.header.specs.Parts.{widthOf, finished, framed}
 use Rattle.header.proofs.Laws.{header-reads, header-size}
 use Rattle.header.proofs.Outcomes.{outcome-bind, outcome-same}
 use Rattle.header.proofs.Parts.{opened}

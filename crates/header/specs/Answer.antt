@@ -3,22 +3,15 @@
 use Prim.Native.Nat.{ℕ}
 use mathlib.Core.List.{List}
 use Rattle.bits.specs.declared.Refusal.{Refusal}
-use Rattle.bits.specs.Refusal.{refusalNumber}
 use Rattle.bits.specs.Reader.{Read, read, stopped}
 use Rattle.types.specs.Header.{defaultHeader}
 use Rattle.types.specs.declared.header.Header.{Header}
 use Rattle.types.specs.declared.state.ReaderState.{ReaderState}
+use Rattle.outcome.specs.declared.Verdict.the-variants.{Accepted, Refused}
 use Rattle.header.specs.Header.{readHeader}
 use Rattle.header.specs.Record.{headerOf}
 use Rattle.header.specs.State.{stateAfter}
 use Rattle.header.specs.declared.HeaderRead.{HeaderRead}
-use Rattle.header.specs.declared.Verdict.{Verdict}
-use Rattle.header.specs.declared.Verdict.the-variants.{Accepted, Refused}
-
--- document 01's number, and 0 for what is accepted
-abbrev pub verdictNumber : Verdict → ℕ
-verdictNumber Accepted = 0
-verdictNumber (Refused e) = refusalNumber e
 
 abbrev pub accepted : Header → ReaderState → HeaderRead
 accepted h st = record { verdict = Accepted; header = h; state = st }

@@ -1,6 +1,6 @@
 -- What the code answers part by part: the end of a header, its settings and its end, and the whole of a frame.
 -- Assumes nothing.
-use Prim.Native.Nat.{ℕ, min}
+use Prim.Native.Nat.{ℕ}
 use mathlib.Core.List.{List}
 use Rattle.types.specs.declared.state.ReaderState.{ReaderState}
 use Rattle.lead.specs.declared.Lead.{Lead}
@@ -8,14 +8,11 @@ use Rattle.lead.specs.Lead.{readLead, leadOf}
 use Rattle.tail.specs.declared.Settings.{Settings}
 use Rattle.tail.specs.Settings.{readSettings, settingsOf}
 use Rattle.tail.specs.Closing.{readClosing, closingOf}
+use Rattle.outcome.specs.Record.{independent, cutLength, frameHeader}
+use Rattle.outcome.specs.State.{frameState}
 use Rattle.header.specs.declared.HeaderRead.{HeaderRead}
-use Rattle.header.specs.Record.{rememberedColor, lengthOf, independent, frameHeader}
-use Rattle.header.specs.State.{frameState}
+use Rattle.header.specs.Record.{rememberedColor}
 use Rattle.header.specs.Answer.{accepted, outcome}
-
--- a length, as far as 16 bits hold it
-abbrev pub cutLength : ℕ → ℕ
-cutLength n = min (lengthOf n) 65535
 
 abbrev pub widthOf : Lead → ℕ
 widthOf l = l .shot .picture .sizes .frame .width

@@ -20,7 +20,7 @@ use Rattle.ivf.specs.Record.{dataEnd, recordAt, recordOf}
 use Rattle.ivf.proofs.Inside.{whole}
 
 -- a number in a part of a list
-little-part : (s : List ℕ) (p m at n : ℕ) → at + n ≤ m → little (take m (drop p s)) at n ≡ little s (p + at) n
+pub little-part : (s : List ℕ) (p m at n : ℕ) → at + n ≤ m → little (take m (drop p s)) at n ≡ little s (p + at) n
 unfolding little
 little-part s p m at zero h = refl
 little-part s p m at (suc n) h =

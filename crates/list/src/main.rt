@@ -1,14 +1,14 @@
-// Lists an IVF file from standard input, as document 01 shows it, in constant memory. What decides a line stands in `listing`, `ivf` and `chunk`.
+// Lists an IVF file from standard input, as document 01 shows it, in constant memory. What decides a line stands in `arriving`, `chunk` and `ivf`, and its text in `frame_line` and `listing`.
 // What is read and not used yet lies in the input buffer from `start` to `end`, and the text that is not written yet at the front of the output buffer.
 ghost use Prim.Native.Nat.{_≤_};
 ghost use mathlib.Core.Path.{_≡_};
 ghost use lib.ListN.{length};
+use arriving::Next;
 use chunk::Answer;
 use chunk::ChunkRead;
 use ivf::FileRead;
 use libc::STDIN_FILENO;
 use libc::STDOUT_FILENO;
-use listing::Next;
 use types::MAX_FRAMES_IN_SUPERFRAME;
 use types::ReaderState;
 
@@ -160,7 +160,7 @@ fn next_at(input: &[u8], run: Run) -> Next {
     if start > end {
         return Next::Cut;
     }
-    listing::next_record(&input[start..end], run.ended)
+    arriving::next_record(&input[start..end], run.ended)
 }
 
 fn parse(input: &[u8], from: usize, to: usize, state: ReaderState) -> ChunkRead {
@@ -241,7 +241,7 @@ fn frames(out: &mut [u8], at: usize, chunk: u64, count: usize, read: ChunkRead) 
     let n = at_most_eight(count);
     for i in 0..n {
         let header = headers[i];
-        next = listing::frame_line(out, next, chunk, i, places[i], sizes[i], header);
+        next = frame_line::frame_line(out, next, chunk, i, places[i], sizes[i], header);
     }
     next
 }

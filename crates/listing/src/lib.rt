@@ -1,14 +1,55 @@
-// The lines of a listing, put into a buffer, and what stands next in an IVF file of which a part is at hand.
-mod line;
-mod record;
+// The lines of a listing besides those of frames. Each is put whole, or not at all where fewer than `line::MAX_LINE` bytes are left.
+ghost use Rattle.line.specs.Line.{Line};
+ghost use Rattle.listing.specs.Lines.{columnLine, refusedLine, fileRefusedLine, lastLine};
 
-pub use line::Kind;
-pub use line::MAX_LINE;
-pub use line::column_line;
-pub use line::file_refused_line;
-pub use line::frame_line;
-pub use line::last_line;
-pub use line::refused_line;
-pub use record::MAX_DATA;
-pub use record::Next;
-pub use record::next_record;
+// The names of the columns.
+pub fn column_line(out: &mut [u8], at: usize) -> usize
+    ensures { λ r. ⌜ Line (now (out .entry)) at columnLine r (now (out .exit)) ⌝ }
+{
+    if !line::has_room(out.len(), at) {
+        return at;
+    }
+    text::put(
+        out,
+        at,
+        b"chunk frame kind at size width height refresh hdr\n",
+    )
+}
+
+// A chunk that is refused, with document 01's number and the number of the frame at fault.
+pub fn refused_line(out: &mut [u8], at: usize, chunk: u64, number: u8, frame: usize) -> usize
+    ensures { λ r. ⌜ Line (now (out .entry)) at (refusedLine chunk number frame) r (now (out .exit)) ⌝ }
+{
+    if !line::has_room(out.len(), at) {
+        return at;
+    }
+    let a = text::put_number(out, at, chunk);
+    let b = text::put(out, a, b" refused ");
+    let c = text::put_number(out, b, number as u64);
+    let d = text::put(out, c, b" frame ");
+    line::put_last(out, d, frame as u64)
+}
+
+// A file that is refused, with document 01's number.
+pub fn file_refused_line(out: &mut [u8], at: usize, number: u8) -> usize
+    ensures { λ r. ⌜ Line (now (out .entry)) at (fileRefusedLine number) r (now (out .exit)) ⌝ }
+{
+    if !line::has_room(out.len(), at) {
+        return at;
+    }
+    let a = text::put(out, at, b"file refused ");
+    line::put_last(out, a, number as u64)
+}
+
+// How many chunks there were, and how many of them were refused.
+pub fn last_line(out: &mut [u8], at: usize, chunks: u64, refused: u64) -> usize
+    ensures { λ r. ⌜ Line (now (out .entry)) at (lastLine chunks refused) r (now (out .exit)) ⌝ }
+{
+    if !line::has_room(out.len(), at) {
+        return at;
+    }
+    let a = text::put_number(out, at, chunks);
+    let b = text::put(out, a, b" chunks ");
+    let c = text::put_number(out, b, refused);
+    text::put(out, c, b" refused\n")
+}

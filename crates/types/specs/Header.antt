@@ -1,5 +1,6 @@
--- Header: the default, with depth 8 and the eight-tap filter, and else 0 or false.
-use mathlib.Core.Bool.{false}
+-- Header: the default, and the one that only names a slot to show.
+use Prim.Native.Nat.{ℕ}
+use mathlib.Core.Bool.{Bool, true, false}
 use lib.ListN.{replicate}
 use Rattle.types.specs.LoopFilterParams.{defaultFilter}
 use Rattle.types.specs.QuantizationParams.{defaultQuantization}
@@ -9,20 +10,22 @@ use Rattle.enums.specs.declared.ColorRange.the-variants.{StudioSwing}
 use Rattle.enums.specs.declared.ColorSpace.the-variants.{Unknown}
 use Rattle.enums.specs.declared.FrameType.the-variants.{KeyFrame}
 use Rattle.enums.specs.declared.InterpolationFilter.the-variants.{EightTap}
+use Rattle.enums.specs.declared.Profile.{Profile}
 use Rattle.enums.specs.declared.Profile.the-variants.{Profile0}
 use Rattle.types.specs.declared.header.Header.{Header}
 
-abbrev pub defaultHeader : Header
-defaultHeader =
+-- depth 8 and the eight-tap filter, and else 0 or false
+abbrev pub bareHeader : Profile → Bool → ℕ → Header
+bareHeader profile shown slot =
     record {
-      profile = Profile0;
+      profile = profile;
       «bit_depth» = Depth8;
       «subsampling_x» = false;
       «subsampling_y» = false;
       «color_space» = Unknown;
       «color_range» = StudioSwing;
-      «show_existing_frame» = false;
-      «frame_to_show_map_idx» = 0;
+      «show_existing_frame» = shown;
+      «frame_to_show_map_idx» = slot;
       «frame_type» = KeyFrame;
       «show_frame» = false;
       «error_resilient_mode» = false;
@@ -50,3 +53,9 @@ defaultHeader =
       «header_size_in_bytes» = 0;
       «uncompressed_header_size_in_bytes» = 0;
     }
+
+abbrev pub defaultHeader : Header
+defaultHeader = bareHeader Profile0 false 0
+
+abbrev pub showingHeader : Profile → ℕ → Header
+showingHeader profile slot = bareHeader profile true slot

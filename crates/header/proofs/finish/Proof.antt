@@ -18,9 +18,6 @@ refused-requires c κs = search needs
 returns : tie.Need-returns
 returns c = search finish-short
 
-header-bytes-requires : tie.Need-header-bytes-requires
-header-bytes-requires c κs = search needs
-
 frame-header-requires : tie.Need-frame-header-requires
 frame-header-requires c κs = search needs
 
@@ -39,7 +36,6 @@ finish-spec =
     enum-told
     refused-requires
     returns
-    header-bytes-requires
     frame-header-requires
     frame-state-requires
     returns-2)

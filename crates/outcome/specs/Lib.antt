@@ -1,0 +1,3 @@
+pub mod Record
+pub mod State
+pub mod Verdict
