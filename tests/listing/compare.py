@@ -158,7 +158,7 @@ def long_files():
 # The program.
 
 def command(name="list"):
-    return program.command(os.path.join(ROOT, "target", "bin", name), program.kit_tools())
+    return program.command(program.built(name), program.kit_tools())
 
 
 def listing(data):

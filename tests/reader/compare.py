@@ -331,7 +331,7 @@ def compare_all(plan, given):
 
 def main():
     options = argparse.ArgumentParser(description="compare the proved reader with the Rust and the model")
-    options.add_argument("--program", default=program.PROGRAM)
+    options.add_argument("--program", default=program.built("trace"))
     options.add_argument("--judge", default=os.path.join(ROOT, "target", "judge", "judge"))
     options.add_argument("--src", default=os.path.join(ROOT, "..", "shared", "docs", "src"),
                          help="the folder of the crate's sources")

@@ -1,4 +1,4 @@
-"""Runs a proved program, as `rt` does."""
+"""Runs one of the programs, as `rt` does."""
 
 import os
 import platform
@@ -7,10 +7,14 @@ import struct
 import subprocess
 
 ROOT = os.path.abspath(os.path.join(os.path.dirname(os.path.abspath(__file__)), "..", ".."))
-PROGRAM = os.path.join(ROOT, "target", "bin", "trace")
 # A longer chunk ends the program.
 LONGEST = 65536
 FRESH = b"\0"
+
+
+def built(name):
+    """The path of a program: in the folder that PROGRAMS names, or else where `rt check` puts the proved one."""
+    return os.path.join(os.environ.get("PROGRAMS") or os.path.join(ROOT, "target", "bin"), name)
 
 
 def sized(chunk):

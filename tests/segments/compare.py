@@ -24,7 +24,7 @@ ROOT = os.path.abspath(os.path.join(HERE, "..", ".."))
 sys.path.insert(0, os.path.join(HERE, "..", "reader"))
 
 from cases import Cases, case_bytes, expect
-from program import command, kit_tools
+from program import built, command, kit_tools
 
 SEED = 5
 
@@ -50,7 +50,7 @@ def model_lines(cases, tables):
 
 def main():
     words = argparse.ArgumentParser(description=__doc__, formatter_class=argparse.RawDescriptionHelpFormatter)
-    words.add_argument("--program", default=os.path.join(ROOT, "target", "bin", "read_segments"))
+    words.add_argument("--program", default=built("read_segments"))
     words.add_argument("--original", default=os.path.join(ROOT, "target", "segments", "original"))
     words.add_argument("--src", default=os.path.join(ROOT, "..", "shared", "docs", "src"))
     words.add_argument("--cases", type=int, default=20000)
