@@ -15,8 +15,8 @@ PARTS = [
     ("enums, settings, header, state", "enums/* types/*"),
     ("the groups of the header", "start/* traits/* sampling/* color/* sizes/* refs/* size_with_refs/* motion/* loop_deltas/* filter/* "
      "quantizer/* feature/* segment_map/* segment_data/* segmentation/* tiles/*"),
-    ("the whole header, record and state", "picture/* inter/* lead/* tail/* slots/* outcome/* header/*"),
-    ("a frame, a chunk, the choice", "frame/* index/* chunk/* choice/*"),
+    ("the whole header, record and state", "picture/* inter/* lead/* tail/* slots/* verdict/* frame_header/* frame_state/* header/*"),
+    ("a frame, a chunk, the choice", "frame/* index/* chunk_read/* chunk/* choice/*"),
     ("the segment records", "tables/* clamp/* quant/* levels/* segments/*"),
     ("IVF files and the listing", "ivf/* recording/* text/* arriving/* line/* frame_line/* listing/*"),
 ]

@@ -35,8 +35,8 @@ use Rattle.lead.specs.Shot as Shot
 use Rattle.tail.specs.Closing as Closing
 use Rattle.tail.specs.Settings as Settings
 use Rattle.slots.specs.Slots as Slots
-use Rattle.outcome.specs.Record.{frameHeader}
-use Rattle.outcome.specs.State.{frameState}
+use Rattle.frame_header.specs.Record.{frameHeader}
+use Rattle.frame_state.specs.State.{frameState}
 use Rattle.header.specs.Answer as Answer
 use Rattle.header.specs.Frame as Frame
 use Rattle.header.specs.Header as Header

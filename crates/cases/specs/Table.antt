@@ -14,10 +14,11 @@ use Rattle.types.specs.SegmentationParams.{defaultSegmentation}
 use Rattle.types.specs.Header.{defaultHeader}
 use Rattle.types.specs.ReaderState.{freshState}
 use Rattle.tiles.specs.Limits.{superblocks, least, most}
-use Rattle.chunk.specs.declared.ChunkRead.{ChunkRead}
-use Rattle.chunk.specs.declared.Answer.{Answer}
-use Rattle.chunk.specs.declared.Answer.the-variants as answer
-use Rattle.chunk.specs.Answer.{chunkNumber, chunkFrame, chunkOf}
+use Rattle.chunk_read.specs.declared.ChunkRead.{ChunkRead}
+use Rattle.chunk_read.specs.declared.Answer.{Answer}
+use Rattle.chunk_read.specs.declared.Answer.the-variants as answer
+use Rattle.chunk_read.specs.Answer.{chunkNumber, chunkFrame}
+use Rattle.chunk.specs.Answer.{chunkOf}
 use Rattle.segments.specs.Features.{featuresOf}
 use Rattle.segments.specs.Segmentation.{gridAfter}
 

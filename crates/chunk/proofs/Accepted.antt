@@ -19,8 +19,8 @@ use Rattle.index.specs.Split.{splitOf}
 use Rattle.index.specs.Table.{Tiles}
 use Rattle.index.proofs.Table.{exactly as split-exactly}
 use Rattle.index.proofs.Tiles.{tiles, count-range, filled-at, filled-rest}
-use Rattle.chunk.specs.declared.Answer.the-variants as answer
-use Rattle.chunk.specs.declared.ChunkRead.{ChunkRead}
+use Rattle.chunk_read.specs.declared.Answer.the-variants as answer
+use Rattle.chunk_read.specs.declared.ChunkRead.{ChunkRead}
 use Rattle.chunk.specs.Frames.{stateBefore, frameRead}
 use Rattle.chunk.specs.Answer.{chunkOf}
 use Rattle.chunk.specs.Table.{frameOf, sizesBefore}

@@ -11,8 +11,8 @@ use Rattle.bits.specs.declared.Refusal.the-variants.{FrameMarker, SyncCode, Pas
 use Rattle.bits.specs.Refusal.{frameMarker, syncCode}
 use Rattle.types.specs.declared.state.ReaderState.{ReaderState}
 use Rattle.index.proofs.First.{below}
-use Rattle.outcome.specs.declared.Verdict.{Verdict}
-use Rattle.outcome.specs.declared.Verdict.the-variants.{Accepted, Refused}
+use Rattle.verdict.specs.declared.Verdict.{Verdict}
+use Rattle.verdict.specs.declared.Verdict.the-variants.{Accepted, Refused}
 use Rattle.header.specs.Answer.{parsed}
 use Rattle.header.proofs.Theorems.{six-exactly, mark-said}
 use Rattle.chunk.specs.Frames.{Fault, none, fault, faultAt, firstFault}

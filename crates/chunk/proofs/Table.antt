@@ -11,11 +11,12 @@ use Rattle.index.specs.declared.Answer.{Answer as SplitAnswer}
 use Rattle.index.specs.declared.Answer.the-variants as split
 use Rattle.index.specs.Split.{splitOf}
 use Rattle.index.proofs.Table.{exactly as split-exactly}
-use Rattle.chunk.specs.declared.Answer.{Answer}
-use Rattle.chunk.specs.declared.Answer.the-variants as answer
-use Rattle.chunk.specs.declared.ChunkRead.{ChunkRead}
+use Rattle.chunk_read.specs.declared.Answer.{Answer}
+use Rattle.chunk_read.specs.declared.Answer.the-variants as answer
+use Rattle.chunk_read.specs.declared.ChunkRead.{ChunkRead}
 use Rattle.chunk.specs.Frames.{stateBefore, frameRead, Fault, none, fault, firstFault}
-use Rattle.chunk.specs.Answer.{chunkNumber, refusedChunk, acceptedChunk, answered, chunkBy, chunkOf}
+use Rattle.chunk_read.specs.Answer.{chunkNumber, refusedChunk}
+use Rattle.chunk.specs.Answer.{acceptedChunk, answered, chunkBy, chunkOf}
 use Rattle.chunk.specs.Table.{frameOf, EachSpelled, FirstFault, When}
 use Rattle.chunk.proofs.Walk.{verdictAt, by-split}
 use Rattle.chunk.proofs.Fault.{Good, Found, found, one-found, refused-exactly}

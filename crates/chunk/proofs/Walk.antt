@@ -11,8 +11,8 @@ use Rattle.bits.specs.declared.Refusal.{Refusal}
 use Rattle.types.specs.Header.{defaultHeader}
 use Rattle.types.specs.declared.header.Header.{Header}
 use Rattle.types.specs.declared.state.ReaderState.{ReaderState}
-use Rattle.outcome.specs.declared.Verdict.{Verdict}
-use Rattle.outcome.specs.declared.Verdict.the-variants.{Accepted, Refused}
+use Rattle.verdict.specs.declared.Verdict.{Verdict}
+use Rattle.verdict.specs.declared.Verdict.the-variants.{Accepted, Refused}
 use Rattle.header.specs.declared.HeaderRead.{HeaderRead}
 use Rattle.header.specs.Answer.{parsed}
 use Rattle.index.specs.declared.Answer.{Answer as SplitAnswer}
@@ -20,10 +20,11 @@ use Rattle.index.specs.declared.Answer.the-variants.{Frames}
 use Rattle.index.specs.declared.Split.{Split}
 use Rattle.index.specs.Split.{filled, splitOf}
 use Rattle.index.proofs.Tiles.{count-range, frame-inside}
-use Rattle.chunk.specs.declared.Answer.the-variants as answer
-use Rattle.chunk.specs.declared.ChunkRead.{ChunkRead}
+use Rattle.chunk_read.specs.declared.Answer.the-variants as answer
+use Rattle.chunk_read.specs.declared.ChunkRead.{ChunkRead}
 use Rattle.chunk.specs.Frames.{stateBefore, frameRead, none, fault, firstFault}
-use Rattle.chunk.specs.Answer.{refusedChunk, acceptedChunk, answered, chunkBy, chunkOf}
+use Rattle.chunk_read.specs.Answer.{refusedChunk}
+use Rattle.chunk.specs.Answer.{acceptedChunk, answered, chunkBy, chunkOf}
 
 abbrev pub verdictAt : List ℕ → ReaderState → ℕ → Verdict
 verdictAt s st i = frameRead s (splitOf s) st i .verdict

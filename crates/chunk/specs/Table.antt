@@ -14,8 +14,8 @@ use Rattle.header.specs.Spelled.{Spelled}
 use Rattle.index.specs.declared.Answer.the-variants as split
 use Rattle.index.specs.Split.{splitOf}
 use Rattle.index.specs.Table.{When as SplitWhen}
-use Rattle.chunk.specs.declared.Answer.{Answer}
-use Rattle.chunk.specs.declared.Answer.the-variants as answer
+use Rattle.chunk_read.specs.declared.Answer.{Answer}
+use Rattle.chunk_read.specs.declared.Answer.the-variants as answer
 use Rattle.chunk.specs.Frames.{frameBytes, stateBefore}
 
 -- frame i's bytes, and the sizes that are remembered before it

@@ -2,74 +2,14 @@
 ghost use mathlib.Core.Path.{_≡_};
 ghost use Rattle.index.specs.declared.Answer.the-variants.{Frames};
 ghost use Rattle.index.specs.Split.{splitOf};
-ghost use Rattle.chunk.specs.Answer.{chunkNumber, chunkFrame, refusedChunk, chunkOf};
-use bits::Refusal;
+ghost use Rattle.chunk.specs.Answer.{chunkOf};
+use chunk_read::Answer;
+use chunk_read::ChunkRead;
 use index::Split;
-use outcome::Verdict;
 use types::Header;
 use types::MAX_FRAMES_IN_SUPERFRAME;
 use types::ReaderState;
-
-pub enum Answer {
-    // So many frames.
-    Frames(usize),
-    Empty,
-    // The chunk is shorter than its index.
-    Short,
-    // This frame, the first at fault, ends past the room.
-    Past(usize),
-    // This frame's header, the first at fault, is refused.
-    Header(usize, Refusal),
-}
-
-impl Answer {
-    // Document 01's number, 0 where the chunk is accepted.
-    pub fn number(self) -> u8
-        ensures { λ r. ⌜ r ≡ chunkNumber self ⌝ }
-    {
-        match self {
-            Answer::Frames(_) => 0,
-            Answer::Empty => 1,
-            Answer::Short => 2,
-            Answer::Past(_) => 3,
-            Answer::Header(_, e) => e.number(),
-        }
-    }
-
-    // The number of the frame at fault, 0 where there is none.
-    pub fn frame(self) -> usize
-        ensures { λ r. ⌜ r ≡ chunkFrame self ⌝ }
-    {
-        match self {
-            Answer::Frames(_) => 0,
-            Answer::Empty => 0,
-            Answer::Short => 0,
-            Answer::Past(i) => i,
-            Answer::Header(i, _) => i,
-        }
-    }
-}
-
-// On a refusal there are no places, the headers are default ones, and the state is the one before.
-pub struct ChunkRead {
-    pub answer: Answer,
-    pub at: [usize; MAX_FRAMES_IN_SUPERFRAME],
-    pub size: [usize; MAX_FRAMES_IN_SUPERFRAME],
-    pub headers: [Header; MAX_FRAMES_IN_SUPERFRAME],
-    pub state: ReaderState,
-}
-
-fn refused(answer: Answer, st: ReaderState) -> ChunkRead
-    ensures { λ r. ⌜ r ≡ refusedChunk answer st ⌝ }
-{
-    ChunkRead {
-        answer,
-        at: [0usize; MAX_FRAMES_IN_SUPERFRAME],
-        size: [0usize; MAX_FRAMES_IN_SUPERFRAME],
-        headers: [Header::DEFAULT; MAX_FRAMES_IN_SUPERFRAME],
-        state: st,
-    }
-}
+use verdict::Verdict;
 
 // Each header is read under the state that the frames before it left; the first refusal drops them all.
 fn parse_frames(chunk: &[u8], places: Split, count: usize, st: ReaderState) -> ChunkRead
@@ -86,7 +26,7 @@ fn parse_frames(chunk: &[u8], places: Split, count: usize, st: ReaderState) -> C
         let read = header::parse_frame_header(&chunk[from..to], state);
         let verdict = read.verdict;
         match verdict {
-            Verdict::Refused(e) => return refused(Answer::Header(i, e), st),
+            Verdict::Refused(e) => return chunk_read::refused(Answer::Header(i, e), st),
             Verdict::Accepted => {}
         }
         let header = read.header;
@@ -111,8 +51,8 @@ pub fn parse_chunk(chunk: &[u8], st: ReaderState) -> ChunkRead
     let answer = places.answer;
     match answer {
         index::Answer::Frames(count) => parse_frames(chunk, places, count, st),
-        index::Answer::Empty => refused(Answer::Empty, st),
-        index::Answer::Short => refused(Answer::Short, st),
-        index::Answer::Past(i) => refused(Answer::Past(i), st),
+        index::Answer::Empty => chunk_read::refused(Answer::Empty, st),
+        index::Answer::Short => chunk_read::refused(Answer::Short, st),
+        index::Answer::Past(i) => chunk_read::refused(Answer::Past(i), st),
     }
 }

@@ -3,8 +3,8 @@
 ghost use Prim.Native.Nat.{_≤_};
 ghost use mathlib.Core.Path.{_≡_};
 ghost use lib.ListN.{length};
-use chunk::Answer;
-use chunk::ChunkRead;
+use chunk_read::Answer;
+use chunk_read::ChunkRead;
 use coded::Little;
 use enums::BitDepth;
 use enums::ColorRange;

@@ -8,7 +8,7 @@ use lib.ListN.{length, take, drop}
 use Rattle.bits.specs.Reader.{pick}
 use Rattle.types.specs.Header.{defaultHeader}
 use Rattle.types.specs.declared.state.ReaderState.{ReaderState}
-use Rattle.outcome.specs.Verdict.{verdictNumber}
+use Rattle.verdict.specs.Verdict.{verdictNumber}
 use Rattle.header.specs.Answer.{parsed}
 use Rattle.header.specs.declared.HeaderRead.{HeaderRead}
 use Rattle.frame.specs.declared.FrameRead.{FrameRead}

@@ -1,9 +1,9 @@
 // A single frame of a chunk, at an offset and of a size.
 ghost use mathlib.Core.Path.{_≡_};
 ghost use Rattle.frame.specs.Place.{placeNumber, outsideFrame, framePlaced};
-use outcome::Verdict;
 use types::Header;
 use types::ReaderState;
+use verdict::Verdict;
 
 // Whether a frame lies in its chunk, and if so what its header says.
 pub enum Place {

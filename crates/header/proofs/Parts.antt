@@ -29,8 +29,8 @@ use Rattle.tail.specs.declared.ClosingRead.the-variants.{Value as Closes, Short
 use Rattle.tail.specs.Settings.{readSettings, startingFilter, startingSegmentation, settingsOf, SettingsAre}
 use Rattle.tail.specs.Closing.{readClosing, closingOf, viewClosing}
 use Rattle.tail.proofs.Steps.{closing-got, closing-short}
-use Rattle.outcome.specs.Record.{independent, cutLength, frameHeader}
-use Rattle.outcome.specs.State.{frameState}
+use Rattle.frame_header.specs.Record.{independent, cutLength, frameHeader}
+use Rattle.frame_state.specs.State.{frameState}
 use Rattle.header.specs.declared.HeaderRead.{HeaderRead}
 use Rattle.header.specs.Header.{showsExisting, profileOf}
 use Rattle.header.specs.Record.{rememberedColor, shownHeader}

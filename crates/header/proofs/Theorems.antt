@@ -18,8 +18,8 @@ use Rattle.bits.proofs.Laws.{unique}
 use Rattle.bits.proofs.Told.{past-end-exactly, mark-exactly}
 use Rattle.types.specs.declared.size.FrameSize.{FrameSize}
 use Rattle.types.specs.declared.state.ReaderState.{ReaderState}
-use Rattle.outcome.specs.declared.Verdict.the-variants.{Accepted, Refused}
-use Rattle.outcome.specs.Record.{lengthOf, frameHeader}
+use Rattle.verdict.specs.declared.Verdict.the-variants.{Accepted, Refused}
+use Rattle.frame_header.specs.Record.{lengthOf, frameHeader}
 use Rattle.header.specs.Header.{HeaderValues, showsExisting, headerFields, HeaderLacks, readHeader}
 use Rattle.header.specs.Spelled.{Spelled}
 use Rattle.header.specs.Record.{shownHeader, headerOf}

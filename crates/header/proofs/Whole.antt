@@ -23,8 +23,8 @@ use Rattle.lead.specs.Shot.{ShotValues, isIntraOnly, shotSize, shotOf}
 use Rattle.lead.specs.Lead.{LeadValues, readLead, isIndependent, leadOf}
 use Rattle.tail.specs.Settings.{SettingsValues, readSettings, settingsOf}
 use Rattle.tail.specs.Closing.{ClosingValues, readClosing, closingOf}
-use Rattle.outcome.specs.Record.{independent, lengthOf, cutLength, frameHeader}
-use Rattle.outcome.specs.State.{frameState}
+use Rattle.frame_header.specs.Record.{independent, lengthOf, cutLength, frameHeader}
+use Rattle.frame_state.specs.State.{frameState}
 use Rattle.header.specs.declared.HeaderRead.{HeaderRead}
 use Rattle.header.specs.Frame.{FrameValues, noFrame, frameWidth, readFrame}
 use Rattle.header.specs.Header.{HeaderValues, showsExisting, profileOf, headerFields, readHeader}

@@ -7,7 +7,7 @@ use Rattle.bits.specs.Reader.{Read, read, stopped}
 use Rattle.types.specs.Header.{defaultHeader}
 use Rattle.types.specs.declared.header.Header.{Header}
 use Rattle.types.specs.declared.state.ReaderState.{ReaderState}
-use Rattle.outcome.specs.declared.Verdict.the-variants.{Accepted, Refused}
+use Rattle.verdict.specs.declared.Verdict.the-variants.{Accepted, Refused}
 use Rattle.header.specs.Header.{readHeader}
 use Rattle.header.specs.Record.{headerOf}
 use Rattle.header.specs.State.{stateAfter}

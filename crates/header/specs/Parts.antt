@@ -8,8 +8,8 @@ use Rattle.lead.specs.Lead.{readLead, leadOf}
 use Rattle.tail.specs.declared.Settings.{Settings}
 use Rattle.tail.specs.Settings.{readSettings, settingsOf}
 use Rattle.tail.specs.Closing.{readClosing, closingOf}
-use Rattle.outcome.specs.Record.{independent, cutLength, frameHeader}
-use Rattle.outcome.specs.State.{frameState}
+use Rattle.frame_header.specs.Record.{independent, cutLength, frameHeader}
+use Rattle.frame_state.specs.State.{frameState}
 use Rattle.header.specs.declared.HeaderRead.{HeaderRead}
 use Rattle.header.specs.Record.{rememberedColor}
 use Rattle.header.specs.Answer.{accepted, outcome}

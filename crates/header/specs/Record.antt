@@ -16,7 +16,7 @@ use Rattle.tail.specs.declared.Settings.{Settings}
 use Rattle.tail.specs.declared.Closing.{Closing}
 use Rattle.tail.specs.Settings.{settingsOf}
 use Rattle.tail.specs.Closing.{closingOf}
-use Rattle.outcome.specs.Record.{lengthOf, frameHeader}
+use Rattle.frame_header.specs.Record.{lengthOf, frameHeader}
 use Rattle.header.specs.Frame.{FrameValues, frameWidth}
 use Rattle.header.specs.Header.{HeaderValues, showsExisting, profileOf, headerFields}
 

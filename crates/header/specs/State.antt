@@ -2,7 +2,7 @@
 -- Assumes nothing.
 use Rattle.bits.specs.Reader.{pick}
 use Rattle.types.specs.declared.state.ReaderState.{ReaderState}
-use Rattle.outcome.specs.State.{frameState}
+use Rattle.frame_state.specs.State.{frameState}
 use Rattle.header.specs.Header.{HeaderValues, showsExisting, profileOf}
 use Rattle.header.specs.Record.{leadFrom, settingsFrom}
 

@@ -10,13 +10,13 @@ use color::Color;
 use enums::Profile;
 use lead::Lead;
 use lead::LeadRead;
-use outcome::Verdict;
 use start::Opening;
 use start::OpeningRead;
 use tail::ClosingRead;
 use tail::Settings;
 use types::Header;
 use types::ReaderState;
+use verdict::Verdict;
 
 // On a refusal the header is the default one and the state the one before.
 pub struct HeaderRead {
@@ -69,8 +69,8 @@ fn finish(s: &[u8], c: Cursor, profile: u32, l: Lead, g: Settings, st: ReaderSta
     };
     HeaderRead {
         verdict: Verdict::Accepted,
-        header: outcome::frame_header(profile, l, g, closing, c1.at),
-        state: outcome::frame_state(st, profile, l, g),
+        header: frame_header::frame_header(profile, l, g, closing, c1.at),
+        state: frame_state::frame_state(st, profile, l, g),
     }
 }
 
@@ -79,7 +79,7 @@ fn settle(s: &[u8], c: Cursor, profile: u32, l: Lead, st: ReaderState) -> Header
 {
     let lf = st.lf;
     let seg = st.seg;
-    let read = tail::parse_settings(s, c, outcome::is_independent(l), lf, seg);
+    let read = tail::parse_settings(s, c, frame_header::is_independent(l), lf, seg);
     let next = read.next;
     match next {
         Next::Refused(e) => refused(st, e),

@@ -1,34 +1,12 @@
-// What a frame's header comes to: the verdict, and the record and the state after, put together from the parts that were read.
+// The record of a frame's header, put together from the parts that were read.
 ghost use mathlib.Core.Path.{_≡_};
-ghost use Rattle.outcome.specs.Record.{cutLength, independent, frameTypeOf, signBiases, frameHeader};
-ghost use Rattle.outcome.specs.State.{rangeAfter, frameState};
-ghost use Rattle.outcome.specs.Verdict.{verdictNumber};
-use bits::Refusal;
-use enums::ColorRange;
+ghost use Rattle.frame_header.specs.Record.{cutLength, independent, frameTypeOf, signBiases, frameHeader};
 use enums::FrameType;
 use enums::Profile;
 use lead::Lead;
 use tail::Closing;
 use tail::Settings;
 use types::Header;
-use types::ReaderState;
-
-pub enum Verdict {
-    Accepted,
-    Refused(Refusal),
-}
-
-impl Verdict {
-    // Document 01's number, and 0 for what is accepted.
-    pub fn number(self) -> u8
-        ensures { λ r. ⌜ r ≡ verdictNumber self ⌝ }
-    {
-        match self {
-            Verdict::Accepted => 0,
-            Verdict::Refused(e) => e.number(),
-        }
-    }
-}
 
 // An intra or error-resilient frame.
 pub fn is_independent(l: Lead) -> bool
@@ -127,41 +105,5 @@ pub fn frame_header(profile: u32, l: Lead, g: Settings, c: Closing, at: usize) -
         lossless: quantizer::is_lossless(quant),
         header_size_in_bytes: c.header_size_in_bytes,
         uncompressed_header_size_in_bytes: header_bytes(at),
-    }
-}
-
-// An intra-only frame of profile 0 says nothing of the range.
-fn range_after(st: ReaderState, profile: u32, l: Lead) -> ColorRange
-    ensures { λ r. ⌜ r ≡ rangeAfter st profile l ⌝ }
-{
-    let kept = st.color_range;
-    let color = l.shot.picture.color;
-    let coded = color.color_range;
-    if (profile == 0) & l.shot.kind.intra_only {
-        kept
-    } else {
-        coded
-    }
-}
-
-pub fn frame_state(st: ReaderState, profile: u32, l: Lead, g: Settings) -> ReaderState
-    ensures { λ r. ⌜ r ≡ frameState st profile l g ⌝ }
-{
-    let color = l.shot.picture.color;
-    let bit_depth = color.bit_depth;
-    let color_space = color.color_space;
-    let lf = g.lf;
-    let seg = g.seg;
-    let slots = st.reference_frame_sz;
-    let size = l.shot.picture.sizes.frame;
-    ReaderState {
-        bit_depth,
-        subsampling_x: color.subsampling_x,
-        subsampling_y: color.subsampling_y,
-        color_space,
-        color_range: range_after(st, profile, l),
-        lf,
-        seg,
-        reference_frame_sz: slots::refresh(slots, size, l.shot.picture.sources.refresh_frame_flags),
     }
 }

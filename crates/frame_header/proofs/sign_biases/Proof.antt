@@ -1,6 +1,6 @@
 use borrow.Author.Needs.{needs}
-use Rattle.outcome.proofs.sign_biases.Statement.{statement}
-use Rattle.outcome.proofs.sign_biases.Tie as tie
+use Rattle.frame_header.proofs.sign_biases.Statement.{statement}
+use Rattle.frame_header.proofs.sign_biases.Tie as tie
 
 is-independent-requires : tie.Need-is-independent-requires
 is-independent-requires c κs = search needs

@@ -1,7 +1,7 @@
-use Rattle.outcome.specs.State.{frameState}
+use Rattle.frame_state.specs.State.{frameState}
 use borrow.Author.Needs.{needs}
-use Rattle.outcome.proofs.frame_state.Statement.{statement}
-use Rattle.outcome.proofs.frame_state.Tie as tie
+use Rattle.frame_state.proofs.frame_state.Statement.{statement}
+use Rattle.frame_state.proofs.frame_state.Tie as tie
 
 range-after-requires : tie.Need-range-after-requires
 range-after-requires c κs = search needs

@@ -1,5 +1,5 @@
-use Rattle.outcome.proofs.range_after.Statement.{statement}
-use Rattle.outcome.proofs.range_after.Tie as tie
+use Rattle.frame_state.proofs.range_after.Statement.{statement}
+use Rattle.frame_state.proofs.range_after.Tie as tie
 
 returns : tie.Need-returns
 returns c = rw (c .if1 .taken)

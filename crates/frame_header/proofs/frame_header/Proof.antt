@@ -1,7 +1,7 @@
-use Rattle.outcome.specs.Record.{frameHeader}
+use Rattle.frame_header.specs.Record.{frameHeader}
 use borrow.Author.Needs.{needs}
-use Rattle.outcome.proofs.frame_header.Statement.{statement}
-use Rattle.outcome.proofs.frame_header.Tie as tie
+use Rattle.frame_header.proofs.frame_header.Statement.{statement}
+use Rattle.frame_header.proofs.frame_header.Tie as tie
 
 of-two-bits-requires : tie.Need-of-two-bits-requires
 of-two-bits-requires c κs = search needs
