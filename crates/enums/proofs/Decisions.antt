@@ -10,7 +10,7 @@ use Rattle.enums.specs.declared.TryInterpolationFilter.the-variants as t
 use Rattle.enums.specs.ReferenceFrameType.{referenceNumber, references, referenceNumbered}
 use Rattle.enums.specs.declared.ReferenceFrameType.the-variants.{Intra, Last, Golden, AltRef}
 use Rattle.enums.specs.declared.TryReferenceFrameType.the-variants as try-reference
-use Rattle.enums.specs.FrameType.{frameTypeNumber, frameTypes, frameTypeNumbered, frameTypeOf}
+use Rattle.enums.specs.FrameType.{frameTypeNumber, frameTypes, frameTypeNumbered}
 use Rattle.enums.specs.declared.FrameType.the-variants.{KeyFrame, InterFrame}
 use Rattle.enums.specs.declared.TryFrameType.the-variants as try-frameType
 use Rattle.enums.specs.Profile.{profileNumber, profiles, profileNumbered, profileOf}
@@ -97,10 +97,6 @@ pub colorRanges-decided : Decides try-colorRange.Ok try-colorRange.Err colorRang
 colorRanges-decided = decides colorRangeNumber try-colorRange.Ok try-colorRange.Err (λ a b e. cc) (λ a e. cc) colorRanges colorRanges-listed
 
 -- The readings of one to three bits lose nothing: what they give has the number that was read.
-pub frame-type-read : (n : ℕ) → n < 2 → frameTypeNumber (frameTypeOf n) ≡ n
-unfolding numbered
-frame-type-read = comes-back frameTypeNumber frameTypeOf 2 tt
-
 pub profile-read : (n : ℕ) → n < 4 → profileNumber (profileOf n) ≡ n
 unfolding numbered
 profile-read = comes-back profileNumber profileOf 4 tt

@@ -1,7 +1,7 @@
 -- FrameType: the number of each variant, and the variant of each number.
 use Prim.Native.Nat.{ℕ}
 use mathlib.Core.List.{List, [], _∷_}
-use Rattle.enums.specs.Numbered.{numbered, answered, orElse}
+use Rattle.enums.specs.Numbered.{numbered, answered}
 use Rattle.enums.specs.declared.FrameType.{FrameType}
 use Rattle.enums.specs.declared.FrameType.the-variants.{KeyFrame, InterFrame}
 use Rattle.enums.specs.declared.TryFrameType.{TryFrameType}
@@ -16,7 +16,3 @@ frameTypes = KeyFrame ∷ InterFrame ∷ []
 
 abbrev pub frameTypeNumbered : ℕ → TryFrameType
 frameTypeNumbered n = answered Ok Err (numbered frameTypeNumber frameTypes n)
-
--- every number past the last variant's gives the last variant
-abbrev pub frameTypeOf : ℕ → FrameType
-frameTypeOf n = orElse InterFrame (numbered frameTypeNumber frameTypes n)

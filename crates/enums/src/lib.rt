@@ -2,7 +2,7 @@
 ghost use mathlib.Core.Path.{_≡_};
 ghost use Rattle.enums.specs.InterpolationFilter.{filterNumber, filterNumbered, filterOfLiteral};
 ghost use Rattle.enums.specs.ReferenceFrameType.{referenceNumber, referenceNumbered};
-ghost use Rattle.enums.specs.FrameType.{frameTypeNumber, frameTypeNumbered, frameTypeOf};
+ghost use Rattle.enums.specs.FrameType.{frameTypeNumber, frameTypeNumbered};
 ghost use Rattle.enums.specs.Profile.{profileNumber, profileNumbered, profileOf};
 ghost use Rattle.enums.specs.BitDepth.{depthNumber, depthNumbered};
 ghost use Rattle.enums.specs.ColorSpace.{colorSpaceNumber, colorSpaceNumbered, colorSpaceOf};
@@ -128,16 +128,6 @@ impl FrameType {
             0 => TryFrameType::Ok(FrameType::KeyFrame),
             1 => TryFrameType::Ok(FrameType::InterFrame),
             _ => TryFrameType::Err,
-        }
-    }
-
-    // The bit frame_type: 0 is a key frame. A larger number is read as the last.
-    pub fn of_bit(n: u32) -> FrameType
-        ensures { λ r. ⌜ r ≡ frameTypeOf n ⌝ }
-    {
-        match n {
-            0 => FrameType::KeyFrame,
-            _ => FrameType::InterFrame,
         }
     }
 }

@@ -9,7 +9,7 @@ use lib.ListN.{getD}
 use Rattle.types.specs.declared.loop_filter.LoopFilterParams.{LoopFilterParams}
 use Rattle.enums.specs.Numbered.{pick}
 use Rattle.clamp.specs.Clamp.{clampTo, changed}
-use Rattle.levels.specs.Grid.{level}
+use Rattle.grid.specs.Grid.{level}
 use Rattle.levels.specs.Levels.{deltaGrid, even, segmentLevel, levelsAt, levelsOf}
 use Rattle.levels.specs.Once.{frameLevels, kept, levelsFrom}
 

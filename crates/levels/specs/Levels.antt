@@ -8,7 +8,7 @@ use lib.IntN.{ℤ, pos, _+ℤ_, _*ℤ_}
 use Rattle.types.specs.declared.loop_filter.LoopFilterParams.{LoopFilterParams}
 use Rattle.enums.specs.Numbered.{pick}
 use Rattle.clamp.specs.Clamp.{clampTo, changed}
-use Rattle.levels.specs.Grid.{level}
+use Rattle.grid.specs.Grid.{level}
 
 -- a level with a delta added, from 0 to 63
 unfoldable pub moved : ℕ → ℤ → ℕ

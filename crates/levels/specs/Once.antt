@@ -8,7 +8,7 @@ use lib.ListN.{getD}
 use Rattle.types.specs.declared.loop_filter.LoopFilterParams.{LoopFilterParams}
 use Rattle.enums.specs.Numbered.{pick}
 use Rattle.clamp.specs.Clamp.{clampTo, changed}
-use Rattle.levels.specs.Grid.{level}
+use Rattle.grid.specs.Grid.{level}
 use Rattle.levels.specs.Levels.{even, levelsAt}
 
 -- the levels by the frame's own level, over a grid of 0

@@ -3,12 +3,7 @@ ghost use mathlib.Core.Path.{_≡_};
 ghost use lib.IntN.{_+ℤ_};
 ghost use Rattle.levels.specs.Levels.{scaled, moved, pairOf, deltaGrid, levelsAt};
 ghost use Rattle.levels.specs.Once.{frameLevels, kept, levelsFrom};
-
-mod grid;
-
-pub use grid::Grid;
-pub use grid::grid_of;
-pub use grid::row_of;
+use grid::Grid;
 use types::LoopFilterParams;
 
 const MAX_LEVEL: u8 = 63;

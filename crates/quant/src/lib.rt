@@ -2,7 +2,7 @@
 ghost use mathlib.Core.Path.{_≡_};
 ghost use lib.IntN.{pos, _+ℤ_};
 ghost use Rattle.clamp.specs.Clamp.{clampTo};
-ghost use Rattle.quant.specs.Quant.{qindexOf, qindex, scaleAt, dcDelta, acDelta, dcQuant, acQuant, scalesAt, scalesOf};
+ghost use Rattle.quant.specs.Quant.{qindexOf, qindex, scaleAt, dcDelta, acDelta, dcQuant, acQuant, scalesAt};
 use enums::BitDepth;
 use enums::SegLvl;
 use tables::Table;
@@ -112,17 +112,4 @@ pub fn scales_at(dc: &Table, ac: &Table, quant: QuantizationParams, b: u8) -> Sc
         chroma_ac: scale_at(ac, b, quant.delta_q_uv_ac),
         chroma_dc: scale_at(dc, b, quant.delta_q_uv_dc),
     }
-}
-
-pub fn get_scales(
-    depth: BitDepth,
-    quant: QuantizationParams,
-    seg: SegmentationParams,
-    segment_id: u8,
-) -> Scales
-    ensures { λ r. ⌜ r ≡ scalesOf depth quant seg «segment_id» ⌝ }
-{
-    let dc = tables::dc_table(depth);
-    let ac = tables::ac_table(depth);
-    scales_at(&dc, &ac, quant, get_qindex(quant, seg, segment_id))
 }

@@ -10,7 +10,7 @@ use Rattle.types.specs.declared.quantization.QuantizationParams.{QuantizationPa
 use Rattle.enums.specs.Numbered.{pick}
 use Rattle.clamp.specs.Clamp.{clampTo, changed}
 use Rattle.tables.specs.Tables.{dcTable, acTable}
-use Rattle.levels.specs.Grid.{gridOf}
+use Rattle.grid.specs.Grid.{gridOf}
 use Rattle.levels.proofs.Frame.{same-levels}
 use Rattle.quant.specs.Quant.{qindexOf, scalesAt}
 use Rattle.segments.specs.declared.features.Features.{Features}

@@ -7,7 +7,7 @@ use Rattle.types.specs.declared.quantization.QuantizationParams.{QuantizationPa
 use Rattle.types.specs.declared.segmentation.SegmentationParams.{SegmentationParams}
 use Rattle.enums.specs.Numbered.{pick}
 use Rattle.clamp.specs.Clamp.{clampTo, changed}
-use Rattle.levels.specs.Grid.{gridOf, rowOf}
+use Rattle.grid.specs.Grid.{gridOf, rowOf}
 use Rattle.levels.specs.Once.{frameLevels, levelsFrom}
 use Rattle.quant.specs.declared.Scales.{Scales}
 use Rattle.quant.specs.Quant.{scalesAt}

@@ -6,7 +6,7 @@ use lib.IntN.{pos}
 use lib.ListN.{replicate}
 use Rattle.types.specs.declared.header.Header.{Header}
 use Rattle.types.specs.declared.loop_filter.LoopFilterParams.{LoopFilterParams}
-use Rattle.levels.specs.Grid.{gridOf, rowOf}
+use Rattle.grid.specs.Grid.{gridOf, rowOf}
 use Rattle.levels.specs.Levels.{levelsOf}
 use Rattle.segments.specs.declared.entries.Entries.{Entries}
 use Rattle.segments.specs.declared.features.Features.{Features}

@@ -10,7 +10,7 @@ mod features;
 use entries::Entries;
 use enums::BitDepth;
 use features::Features;
-use levels::Grid;
+use grid::Grid;
 use quant::Scales;
 use tables::Table;
 use types::Header;
@@ -119,9 +119,9 @@ fn renew<'a>(
 fn levels_after(lf: LoopFilterParams, frame: Grid, f: Features, old: [u8; 8]) -> [u8; 8]
     ensures { λ r. ⌜ r ≡ levelsAfter lf frame f old ⌝ }
 {
-    let before = levels::grid_of(old);
+    let before = grid::grid_of(old);
     let after = levels::levels_of(lf, frame, f.level_active, f.absolute, f.level, before);
-    levels::row_of(after)
+    grid::row_of(after)
 }
 
 fn segment_with(levels: [u8; 8], e: Entries) -> Segmentation

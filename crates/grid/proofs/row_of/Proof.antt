@@ -1,9 +1,9 @@
--- `levels::grid::row_of` meets its contract: by computation.
+-- `grid::row_of` meets its contract: by computation.
 use mathlib.Core.Path.{refl}
 use borrow.Author.Needs.{needs}
-use Rattle.levels.specs.Grid.{rowOf}
-use Rattle.levels.proofs.grid.row_of.Statement.{statement}
-use Rattle.levels.proofs.grid.row_of.Tie as tie
+use Rattle.grid.specs.Grid.{rowOf}
+use Rattle.grid.proofs.row_of.Statement.{statement}
+use Rattle.grid.proofs.row_of.Tie as tie
 
 index-1-t7 : tie.Need-index-1-t7
 index-1-t7 c = search needs

@@ -2,7 +2,7 @@
 use mathlib.Core.Path.{_≡_, refl}
 use mathlib.Core.List.{List, [], _∷_}
 use Prim.Native.Nat.{ℕ}
-use Rattle.levels.specs.Grid.{gridOf, rowOf}
+use Rattle.grid.specs.Grid.{gridOf, rowOf}
 
 module _ (a b c d e f g h : ℕ) where
   abbrev row : List ℕ

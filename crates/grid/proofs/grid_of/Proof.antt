@@ -1,9 +1,9 @@
--- `levels::grid::grid_of` meets its contract: by computation.
+-- `grid::grid_of` meets its contract: by computation.
 use mathlib.Core.Path.{refl}
 use borrow.Author.Needs.{needs}
-use Rattle.levels.specs.Grid.{gridOf}
-use Rattle.levels.proofs.grid.grid_of.Statement.{statement}
-use Rattle.levels.proofs.grid.grid_of.Tie as tie
+use Rattle.grid.specs.Grid.{gridOf}
+use Rattle.grid.proofs.grid_of.Statement.{statement}
+use Rattle.grid.proofs.grid_of.Tie as tie
 
 array-read-t5 : tie.Need-array-read-t5
 array-read-t5 c = search needs

@@ -1,6 +1,6 @@
 // A grid of levels, four references by two modes, and the row that a record holds it in.
 ghost use mathlib.Core.Path.{_≡_};
-ghost use Rattle.levels.specs.Grid.{gridOf, rowOf};
+ghost use Rattle.grid.specs.Grid.{gridOf, rowOf};
 
 pub type Grid = [[u8; 2]; 4];
 
