@@ -48,7 +48,7 @@ use Rattle.index.specs.Split as Split
 use Rattle.chunk.specs.Frames as Frames
 use Rattle.chunk.specs.Answer as Chunk
 use Rattle.clamp.specs.Clamp as Clamp
-use Rattle.segments.specs.Features as Features
+use Rattle.segment_features.specs.Features as Features
 use Rattle.levels.specs.Levels as Levels
 use Rattle.cases.specs.Table.{framesFrom, table, AllHold}
 

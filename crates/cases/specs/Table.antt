@@ -19,7 +19,7 @@ use Rattle.chunk_read.specs.declared.Answer.{Answer}
 use Rattle.chunk_read.specs.declared.Answer.the-variants as answer
 use Rattle.chunk_read.specs.Answer.{chunkNumber, chunkFrame}
 use Rattle.chunk.specs.Answer.{chunkOf}
-use Rattle.segments.specs.Features.{featuresOf}
+use Rattle.segment_features.specs.Features.{featuresOf}
 use Rattle.segments.specs.Segmentation.{gridAfter}
 
 -- what is said of a frame: its place, and of its header the kind, the sizes, the quantizer's base, the refresh bits and the length

@@ -13,11 +13,11 @@ use Rattle.tables.specs.Tables.{dcTable, acTable}
 use Rattle.grid.specs.Grid.{gridOf}
 use Rattle.levels.proofs.Frame.{same-levels}
 use Rattle.quant.specs.Quant.{qindexOf, scalesAt}
-use Rattle.segments.specs.declared.features.Features.{Features}
+use Rattle.segment_features.specs.declared.Features.{Features}
 use Rattle.segments.specs.declared.Segmentation.{Segmentation}
 use Rattle.segments.specs.Each.{each}
 use Rattle.segments.specs.Entries.{index, entriesOf}
-use Rattle.segments.specs.Features.{featuresOf}
+use Rattle.segment_features.specs.Features.{featuresOf}
 use Rattle.segments.specs.Once.{scalesFrom, levelsAfter, renewed, segmentAt}
 use Rattle.segments.specs.Segmentation.{segmentOf}
 use Rattle.segments.proofs.Each.{each-same}

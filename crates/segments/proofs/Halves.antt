@@ -10,7 +10,7 @@ use Rattle.quant.specs.Quant.{qindex, dcQuant, acQuant, scalesAt, scalesOf}
 use Rattle.segments.specs.declared.entries.Entries.{Entries}
 use Rattle.segments.specs.declared.Segmentation.{Segmentation}
 use Rattle.segments.specs.Entries.{index, entriesWith, entriesOf}
-use Rattle.segments.specs.Features.{featuresOf, featuresIn}
+use Rattle.segment_features.specs.Features.{featuresOf, featuresIn}
 use Rattle.segments.specs.Segmentation.{segmentWith, gridAfter, segmentOf}
 
 -- the scales are those of the dequantization functions

@@ -6,7 +6,7 @@ use Rattle.tables.specs.Tables.{dcTable, acTable}
 use Rattle.quant.specs.declared.Scales.{Scales}
 use Rattle.quant.specs.Quant.{qindexOf, scalesAt}
 use Rattle.segments.specs.declared.entries.Entries.{Entries}
-use Rattle.segments.specs.declared.features.Features.{Features}
+use Rattle.segment_features.specs.declared.Features.{Features}
 
 -- get_qindex() of the segment with the features f
 unfoldable pub index : QuantizationParams → Features → ℕ

@@ -11,9 +11,9 @@ use Rattle.grid.specs.Grid.{gridOf, rowOf}
 use Rattle.levels.specs.Once.{frameLevels, levelsFrom}
 use Rattle.quant.specs.declared.Scales.{Scales}
 use Rattle.quant.specs.Quant.{scalesAt}
-use Rattle.segments.specs.declared.features.Features.{Features}
+use Rattle.segment_features.specs.declared.Features.{Features}
 use Rattle.segments.specs.declared.Segmentation.{Segmentation}
-use Rattle.segments.specs.Features.{featuresOf}
+use Rattle.segment_features.specs.Features.{featuresOf}
 use Rattle.segments.specs.Entries.{entriesWith}
 use Rattle.segments.specs.Segmentation.{segmentWith}
 

@@ -9,9 +9,9 @@ use Rattle.types.specs.declared.loop_filter.LoopFilterParams.{LoopFilterParams}
 use Rattle.grid.specs.Grid.{gridOf, rowOf}
 use Rattle.levels.specs.Levels.{levelsOf}
 use Rattle.segments.specs.declared.entries.Entries.{Entries}
-use Rattle.segments.specs.declared.features.Features.{Features}
+use Rattle.segment_features.specs.declared.Features.{Features}
 use Rattle.segments.specs.declared.Segmentation.{Segmentation}
-use Rattle.segments.specs.Features.{featuresOf}
+use Rattle.segment_features.specs.Features.{featuresOf}
 use Rattle.segments.specs.Entries.{entriesOf}
 
 abbrev pub defaultSegment : Segmentation

@@ -2,8 +2,8 @@
 ghost use mathlib.Core.Path.{_≡_};
 ghost use Rattle.segments.specs.Entries.{entriesWith};
 ghost use Rattle.segments.specs.Once.{scalesFrom};
-use crate::features::Features;
 use quant::Scales;
+use segment_features::Features;
 use tables::Table;
 use types::QuantizationParams;
 

@@ -5,13 +5,12 @@ ghost use Rattle.segments.specs.Segmentation.{defaultSegment, segmentWit
 ghost use Rattle.segments.specs.Once.{levelsAfter, renewed, segmentAt};
 
 mod entries;
-mod features;
 
 use entries::Entries;
 use enums::BitDepth;
-use features::Features;
 use grid::Grid;
 use quant::Scales;
+use segment_features::Features;
 use tables::Table;
 use types::Header;
 use types::LoopFilterParams;
@@ -89,7 +88,13 @@ fn renew_all<'a>(
     let mut out = old;
     for i in 0..8u8 {
         let s = out[i as usize];
-        let f = features::features_of(seg.enabled, seg.abs_or_delta_update, &on, &values, i);
+        let f = segment_features::features_of(
+            seg.enabled,
+            seg.abs_or_delta_update,
+            &on,
+            &values,
+            i,
+        );
         let r = renew(dc, ac, lf, quant, scales, grid, f, s);
         out[i as usize] = r;
     }

@@ -5,7 +5,7 @@ use native.Mathlib.Omega.{arith}
 use borrow.Author.Needs.{needs}
 use lib.ListN.{length, length-set}
 use Rattle.segments.specs.Each.{each}
-use Rattle.segments.specs.Features.{featuresOf}
+use Rattle.segment_features.specs.Features.{featuresOf}
 use Rattle.segments.specs.Once.{segmentAt}
 use Rattle.segments.proofs.Each.{length-mapped, done, each-step, each-end}
 use Rattle.segments.proofs.renew_all.Statement.{statement}

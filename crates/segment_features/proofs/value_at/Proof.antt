@@ -1,10 +1,10 @@
--- `segments::features::value_at` meets its contract: the place lies in the row, and past the segments the answer is 0.
+-- `segment_features::value_at` meets its contract: the place lies in the row, and past the segments the answer is 0.
 use Prim.Native.Nat.{_<_}
 use native.Mathlib.Omega.{arith}
 use borrow.Author.Needs.{needs}
 use Rattle.types.proofs.Features.{features}
-use Rattle.segments.proofs.features.value_at.Statement.{statement}
-use Rattle.segments.proofs.features.value_at.Tie as tie
+use Rattle.segment_features.proofs.value_at.Statement.{statement}
+use Rattle.segment_features.proofs.value_at.Tie as tie
 
 place-requires : tie.Need-place-requires
 place-requires c κs = search needs

@@ -1,8 +1,8 @@
--- `segments::features::enabled_at` meets its contract: the place lies in the row, and past the segments the answer is false.
+-- `segment_features::enabled_at` meets its contract: the place lies in the row, and past the segments the answer is false.
 use borrow.Author.Needs.{needs}
 use Rattle.types.proofs.Features.{features}
-use Rattle.segments.proofs.features.enabled_at.Statement.{statement}
-use Rattle.segments.proofs.features.enabled_at.Tie as tie
+use Rattle.segment_features.proofs.enabled_at.Statement.{statement}
+use Rattle.segment_features.proofs.enabled_at.Tie as tie
 
 place-requires : tie.Need-place-requires
 place-requires c κs = search needs

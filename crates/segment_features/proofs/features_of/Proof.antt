@@ -1,10 +1,10 @@
--- `segments::features::features_of` meets its contract: each field is one look into a row.
+-- `segment_features::features_of` meets its contract: each field is one look into a row.
 use borrow.Author.Needs.{needs}
 use mir.Syntax.{w16}
 use Rattle.clamp.proofs.Casts.{given}
-use Rattle.segments.specs.Features.{featuresIn}
-use Rattle.segments.proofs.features.features_of.Statement.{statement}
-use Rattle.segments.proofs.features.features_of.Tie as tie
+use Rattle.segment_features.specs.Features.{featuresIn}
+use Rattle.segment_features.proofs.features_of.Statement.{statement}
+use Rattle.segment_features.proofs.features_of.Tie as tie
 
 active-at-requires : tie.Need-active-at-requires
 active-at-requires c κs = search needs

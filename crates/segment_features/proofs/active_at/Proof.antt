@@ -1,7 +1,7 @@
--- `segments::features::active_at` meets its contract: enabled, and segmentation on.
+-- `segment_features::active_at` meets its contract: enabled, and segmentation on.
 use borrow.Author.Needs.{needs}
-use Rattle.segments.proofs.features.active_at.Statement.{statement}
-use Rattle.segments.proofs.features.active_at.Tie as tie
+use Rattle.segment_features.proofs.active_at.Statement.{statement}
+use Rattle.segment_features.proofs.active_at.Tie as tie
 
 enabled-at-requires : tie.Need-enabled-at-requires
 enabled-at-requires c κs = search needs

@@ -5,7 +5,7 @@ ghost use Prim.Native.Nat.{_+_, _*_};
 ghost use lib.IntN.{pos};
 ghost use Rattle.enums.specs.SegLvl.{segLvlNumber};
 ghost use Rattle.types.specs.SegmentationParams.{featureIn};
-ghost use Rattle.segments.specs.Features.{featuresIn};
+ghost use Rattle.segment_features.specs.Features.{featuresIn};
 use enums::SegLvl;
 use types::SegmentationParams;
 
