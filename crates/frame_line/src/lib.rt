@@ -18,7 +18,7 @@ pub enum Kind {
 
 impl Kind {
     // What a frame's header says that it is.
-    pub fn of(header: Header) -> Kind
+    fn of(header: Header) -> Kind
         ensures { λ r. ⌜ r ≡ kindOf header ⌝ }
     {
         if header.show_existing_frame {

@@ -4,7 +4,7 @@ ghost use Prim.Native.Nat.{_+_, _*_, _≤_};
 ghost use lib.ListN.{length};
 ghost use Rattle.coded.specs.Little.{little};
 ghost use Rattle.index.specs.Layout.{marker, lastByte, laid, whole};
-ghost use Rattle.index.specs.Split.{splitNumber, splitFrame, refused, placed, splitOf};
+ghost use Rattle.index.specs.Split.{refused, placed, splitOf};
 use coded::Little;
 
 pub enum Answer {
@@ -15,32 +15,6 @@ pub enum Answer {
     Short,
     // This frame, the first at fault, ends past the room.
     Past(usize),
-}
-
-impl Answer {
-    // Document 01's number, 0 where the chunk is split.
-    pub fn number(self) -> u8
-        ensures { λ r. ⌜ r ≡ splitNumber self ⌝ }
-    {
-        match self {
-            Answer::Frames(_) => 0,
-            Answer::Empty => 1,
-            Answer::Short => 2,
-            Answer::Past(_) => 3,
-        }
-    }
-
-    // The number of the frame at fault, 0 where there is none.
-    pub fn frame(self) -> usize
-        ensures { λ r. ⌜ r ≡ splitFrame self ⌝ }
-    {
-        match self {
-            Answer::Frames(_) => 0,
-            Answer::Empty => 0,
-            Answer::Short => 0,
-            Answer::Past(i) => i,
-        }
-    }
 }
 
 // The frames' places, beside the answer, since no enum can hold an array.

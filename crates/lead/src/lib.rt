@@ -37,7 +37,7 @@ fn with_kind(kind: Kind, read: PictureRead) -> ShotRead
 }
 
 // A key frame isn't intra-only, and resets no context by number.
-pub fn parse_shot(
+fn parse_shot(
     s: &[u8],
     c: Cursor,
     profile: u32,

@@ -12,7 +12,7 @@ pub enum FilterRead {
     Short,
 }
 
-pub fn read_interpolation_filter(s: &[u8], c: Cursor) -> FilterRead
+fn read_interpolation_filter(s: &[u8], c: Cursor) -> FilterRead
     ensures { λ r. ⌜ viewFilter r ≡ over filterOf (readFilter (now (s .entry)) (c .at)) ⌝ }
 {
     let Bits::Value(switchable, c1) = bits::read_bits(s, c, 1) else {

@@ -18,7 +18,7 @@ pub enum RefRead {
 }
 
 // One reference, whichever of the three it is.
-pub fn parse_ref(s: &[u8], c: Cursor) -> RefRead
+fn parse_ref(s: &[u8], c: Cursor) -> RefRead
     ensures { λ r. ⌜ RefIs (now (s .entry)) (c .at) r ⌝ }
 {
     let Bits::Value(idx, c1) = bits::read_bits(s, c, 3) else {
@@ -47,7 +47,7 @@ pub enum RefsRead {
     Short,
 }
 
-pub fn parse_refs(s: &[u8], c: Cursor) -> RefsRead
+fn parse_refs(s: &[u8], c: Cursor) -> RefsRead
     ensures { λ r. ⌜ viewRefs r ≡ over refsOf (readRefs (now (s .entry)) (c .at)) ⌝ }
 {
     let RefRead::Value(last, c1) = parse_ref(s, c) else {

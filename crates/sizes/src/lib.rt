@@ -14,7 +14,7 @@ pub enum SizeRead {
 }
 
 // A size. Its two fields have the names that the caller's table gives them.
-pub fn parse_frame_size(s: &[u8], c: Cursor) -> SizeRead
+fn parse_frame_size(s: &[u8], c: Cursor) -> SizeRead
     ensures { λ r. ⌜ SizeIs (now (s .entry)) (c .at) r ⌝ }
 {
     let Bits::Value(width, c1) = bits::read_bits(s, c, 16) else {

@@ -14,7 +14,7 @@ pub enum ProfileRead {
 }
 
 // The profile's number. Profile 3 has a reserved bit after it, which may be 1.
-pub fn parse_profile(s: &[u8], c: Cursor) -> ProfileRead
+fn parse_profile(s: &[u8], c: Cursor) -> ProfileRead
     ensures { λ r. ⌜ viewProfile r ≡ over profileNumber (readProfile (now (s .entry)) (c .at)) ⌝ }
 {
     let Bits::Value(marker, c1) = bits::read_bits(s, c, 2) else {

@@ -14,14 +14,14 @@ const MIN_TILE_WIDTH_B64: u32 = 4;
 const MAX_TILE_WIDTH_B64: u64 = 64;
 
 // A width in superblocks, by a sum of 64 bits, which no width wraps.
-pub fn superblocks(width: u32) -> u32
+fn superblocks(width: u32) -> u32
     ensures { λ r. ⌜ r ≡ superblocks width ⌝ }
 {
     ((width as u64 + 63) / 64) as u32
 }
 
 // The logarithm of the fewest columns whose tiles aren't too wide.
-pub fn calc_min_log2_tile_cols(sb64_cols: u32) -> u8
+fn calc_min_log2_tile_cols(sb64_cols: u32) -> u8
     ensures { λ r. ⌜ r ≡ least «sb64_cols» ⌝ }
 {
     let w = sb64_cols as u64;
@@ -33,7 +33,7 @@ pub fn calc_min_log2_tile_cols(sb64_cols: u32) -> u8
 }
 
 // The logarithm of the most columns whose tiles aren't too narrow, or 0.
-pub fn calc_max_log2_tile_cols(sb64_cols: u32) -> u8
+fn calc_max_log2_tile_cols(sb64_cols: u32) -> u8
     ensures { λ r. ⌜ r ≡ most «sb64_cols» ⌝ }
 {
     let mut max_log2: u8 = 0;
