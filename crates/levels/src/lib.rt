@@ -9,7 +9,7 @@ mod grid;
 pub use grid::Grid;
 pub use grid::grid_of;
 pub use grid::row_of;
-use types::LoopFilterParams;
+use settings::LoopFilterParams;
 
 const MAX_LEVEL: u8 = 63;
 

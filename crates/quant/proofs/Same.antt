@@ -3,7 +3,7 @@ use mathlib.Core.Path.{_≡_}
 use mathlib.Core.List.{List}
 use Prim.Native.Nat.{ℕ}
 use lib.IntN.{ℤ, pos, _+ℤ_}
-use Rattle.types.specs.declared.quantization.QuantizationParams.{QuantizationParams}
+use Rattle.settings.specs.declared.quantization.QuantizationParams.{QuantizationParams}
 use Rattle.quant.specs.Quant.{scaleAt, scalesAt}
 
 pub same-scale : {t t′ : List ℤ} {b b′ : ℕ} {d d′ : ℤ} → t ≡ t′ → b ≡ b′ → d ≡ d′

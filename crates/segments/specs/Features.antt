@@ -4,8 +4,8 @@ use mathlib.Core.List.{List}
 use mathlib.Core.Bool.{Bool, false, _&&_}
 use lib.IntN.{ℤ, pos}
 use Rattle.enums.specs.declared.SegLvl.the-variants.{AltQ, AltL, RefFrame, LvlSkip}
-use Rattle.types.specs.declared.segmentation.SegmentationParams.{SegmentationParams}
-use Rattle.types.specs.SegmentationParams.{featureIn}
+use Rattle.settings.specs.declared.segmentation.SegmentationParams.{SegmentationParams}
+use Rattle.settings.specs.SegmentationParams.{featureIn}
 use Rattle.segments.specs.declared.features.Features.{Features}
 
 -- by the flags enabled and abs_or_delta_update and the rows of bits and data; as in the source, reference and skip report the enabled bits even where segmentation is off

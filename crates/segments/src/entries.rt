@@ -4,8 +4,8 @@ ghost use Rattle.segments.specs.Entries.{entriesWith};
 ghost use Rattle.segments.specs.Once.{scalesFrom};
 use crate::features::Features;
 use quant::Scales;
+use settings::QuantizationParams;
 use tables::Table;
-use types::QuantizationParams;
 
 const MAX_Q_INDEX: u8 = 255;
 

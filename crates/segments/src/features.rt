@@ -4,10 +4,10 @@ ghost use mathlib.Core.Bool.{false, _&&_};
 ghost use Prim.Native.Nat.{_+_, _*_};
 ghost use lib.IntN.{pos};
 ghost use Rattle.enums.specs.SegLvl.{segLvlNumber};
-ghost use Rattle.types.specs.SegmentationParams.{featureIn};
+ghost use Rattle.settings.specs.SegmentationParams.{featureIn};
 ghost use Rattle.segments.specs.Features.{featuresIn};
 use enums::SegLvl;
-use types::SegmentationParams;
+use settings::SegmentationParams;
 
 pub type Enabled = [bool; SegmentationParams::FEATURES];
 

@@ -12,11 +12,11 @@ use enums::BitDepth;
 use features::Features;
 use levels::Grid;
 use quant::Scales;
+use settings::LoopFilterParams;
+use settings::QuantizationParams;
+use settings::SegmentationParams;
 use tables::Table;
 use types::Header;
-use types::LoopFilterParams;
-use types::QuantizationParams;
-use types::SegmentationParams;
 
 // The level of reference r in mode m stands at r * 2 + m of lvl_lookup.
 pub struct Segmentation {

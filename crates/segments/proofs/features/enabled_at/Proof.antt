@@ -1,6 +1,6 @@
 -- `segments::features::enabled_at` meets its contract: the place lies in the row, and past the segments the answer is false.
 use borrow.Author.Needs.{needs}
-use Rattle.types.proofs.Features.{features}
+use Rattle.settings.proofs.Features.{features}
 use Rattle.segments.proofs.features.enabled_at.Statement.{statement}
 use Rattle.segments.proofs.features.enabled_at.Tie as tie
 

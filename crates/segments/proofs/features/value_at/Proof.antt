@@ -2,7 +2,7 @@
 use Prim.Native.Nat.{_<_}
 use native.Mathlib.Omega.{arith}
 use borrow.Author.Needs.{needs}
-use Rattle.types.proofs.Features.{features}
+use Rattle.settings.proofs.Features.{features}
 use Rattle.segments.proofs.features.value_at.Statement.{statement}
 use Rattle.segments.proofs.features.value_at.Tie as tie
 
