@@ -12,7 +12,7 @@ ROOT = os.path.abspath(os.path.join(os.path.dirname(os.path.abspath(__file__)), 
 PROVED = re.compile(r"-- (reading|the code|what `)")
 PARTS = [
     ("bits, fields, spellings", "bits/Bit bits/Refusal bits/Syntax coded/Signed coded/Delta coded/Prob coded/Run"),
-    ("enums, settings, header, state", "enums/* types/*"),
+    ("enums, settings, header, state", "enums/* settings/* types/*"),
     ("the groups of the header", "start/* traits/* sampling/* color/* sizes/* refs/* size_with_refs/* motion/* loop_deltas/* filter/* "
      "quantizer/* feature/* segment_map/* segment_data/* segmentation/* tiles/*"),
     ("the whole header, record and state", "picture/* inter/* lead/* tail/* slots/* verdict/* frame_header/* frame_state/* header/*"),

@@ -7,10 +7,10 @@ use mathlib.Core.List.{List, [], _∷_, _++_}
 use lib.ListN.{getD, replicate}
 use Rattle.enums.specs.declared.FrameType.{FrameType}
 use Rattle.enums.specs.declared.FrameType.the-variants.{KeyFrame, InterFrame}
-use Rattle.types.specs.declared.loop_filter.LoopFilterParams.{LoopFilterParams}
+use Rattle.settings.specs.declared.loop_filter.LoopFilterParams.{LoopFilterParams}
 use Rattle.types.specs.declared.state.ReaderState.{ReaderState}
-use Rattle.types.specs.LoopFilterParams.{defaultFilter, resetFilter}
-use Rattle.types.specs.SegmentationParams.{defaultSegmentation}
+use Rattle.settings.specs.LoopFilterParams.{defaultFilter, resetFilter}
+use Rattle.settings.specs.SegmentationParams.{defaultSegmentation}
 use Rattle.types.specs.Header.{defaultHeader}
 use Rattle.types.specs.ReaderState.{freshState}
 use Rattle.tiles.specs.Limits.{superblocks, least, most}

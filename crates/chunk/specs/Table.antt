@@ -7,7 +7,7 @@ use Rattle.bits.specs.declared.Refusal.{Refusal}
 use Rattle.bits.specs.declared.Refusal.the-variants.{FrameMarker, SyncCode, PastEnd}
 use Rattle.bits.specs.Refusal.{frameMarker, syncCode}
 use Rattle.bits.specs.Syntax.{Ranged, CutOff, Unmarked}
-use Rattle.types.specs.declared.size.FrameSize.{FrameSize}
+use Rattle.settings.specs.declared.size.FrameSize.{FrameSize}
 use Rattle.types.specs.declared.state.ReaderState.{ReaderState}
 use Rattle.header.specs.Header.{HeaderValues, headerFields, HeaderLacks}
 use Rattle.header.specs.Spelled.{Spelled}

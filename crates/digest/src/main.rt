@@ -12,13 +12,13 @@ use enums::ColorSpace;
 use libc::STDIN_FILENO;
 use libc::STDOUT_FILENO;
 use segments::Segmentation;
-use types::FrameSize;
+use settings::FrameSize;
+use settings::LoopFilterParams;
+use settings::QuantizationParams;
+use settings::SegmentationParams;
 use types::Header;
-use types::LoopFilterParams;
 use types::MAX_FRAMES_IN_SUPERFRAME;
-use types::QuantizationParams;
 use types::ReaderState;
-use types::SegmentationParams;
 
 // A digest takes in numbers one after the other; each function answers the digest that has taken in its value too.
 

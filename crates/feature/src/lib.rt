@@ -4,7 +4,7 @@ ghost use mathlib.Core.Path.{_≡_};
 ghost use Rattle.feature.specs.Feature.{featureBits, featureSigned, FeatureIs};
 use bits::Bits;
 use bits::Cursor;
-use types::SegmentationParams;
+use settings::SegmentationParams;
 
 // How wide each feature's value is, and whether a sign follows it: quantizer, filter level, reference, skip.
 const SEGMENTATION_FEATURE_BITS: [usize; SegmentationParams::SEG_LVL_MAX] = [8, 6, 2, 0];

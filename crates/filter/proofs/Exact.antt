@@ -6,7 +6,7 @@ use mathlib.Core.List.{List}
 use Rattle.bits.specs.declared.Next.the-variants.{Refused}
 use Rattle.bits.specs.declared.Refusal.{Refusal}
 use Rattle.bits.specs.Reader.{over}
-use Rattle.types.specs.declared.loop_filter.LoopFilterParams.{LoopFilterParams}
+use Rattle.settings.specs.declared.loop_filter.LoopFilterParams.{LoopFilterParams}
 use Rattle.loop_deltas.specs.declared.LoopFilterRead.{LoopFilterRead}
 use Rattle.loop_deltas.specs.LoopDeltas.{viewLoopFilter}
 use Rattle.filter.specs.LoopFilter.{readLoopFilter, loopFilterOf}

@@ -15,7 +15,7 @@ use Rattle.bits.specs.declared.Cursor.{Cursor}
 use Rattle.bits.specs.Read.{readBits}
 use Rattle.bits.specs.Reader.{got}
 use Rattle.bits.proofs.Steps.{value-lt}
-use Rattle.types.specs.declared.loop_filter.LoopFilterParams.{LoopFilterParams}
+use Rattle.settings.specs.declared.loop_filter.LoopFilterParams.{LoopFilterParams}
 use Rattle.loop_deltas.specs.LoopDeltas.{LoopDeltasValues, noLoopDeltas, withFlags, loopDeltasOf}
 use Rattle.filter.specs.LoopFilter.{loopFilterOf}
 

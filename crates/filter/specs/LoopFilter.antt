@@ -5,7 +5,7 @@ use mathlib.Core.List.{List, _∷_}
 use Rattle.bits.specs.Refusal.{the}
 use Rattle.bits.specs.Syntax.{Field, fld, flag, optional, Given}
 use Rattle.bits.specs.Reader.{pick, Reader, give, _>>=_, field, groupIf}
-use Rattle.types.specs.declared.loop_filter.LoopFilterParams.{LoopFilterParams}
+use Rattle.settings.specs.declared.loop_filter.LoopFilterParams.{LoopFilterParams}
 use Rattle.loop_deltas.specs.LoopDeltas.{LoopDeltasValues, noLoopDeltas, loopDeltasFields, LoopDeltasLacks, readLoopDeltas, withFlags, loopDeltasOf}
 
 pub record LoopFilterValues : Type 0 where

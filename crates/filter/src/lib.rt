@@ -8,7 +8,7 @@ use bits::Cursor;
 use bits::Next;
 use bits::Refusal;
 use loop_deltas::LoopFilterRead;
-use types::LoopFilterParams;
+use settings::LoopFilterParams;
 
 pub fn parse_loop_filter_params(s: &[u8], c: Cursor, old: LoopFilterParams) -> LoopFilterRead
     ensures { λ r. ⌜ viewLoopFilter r ≡ over (loopFilterOf old) (readLoopFilter (now (s .entry)) (c .at)) ⌝ }

@@ -9,7 +9,7 @@ use Rattle.bits.specs.Syntax.{optional, Given, size}
 use Rattle.bits.specs.Law.{Any, Reads}
 use Rattle.bits.proofs.Laws.{then, last, next-if, done, ends, respelt}
 use Rattle.bits.proofs.Fields.{size-append, size-optional}
-use Rattle.types.specs.declared.size.FrameSize.{FrameSize}
+use Rattle.settings.specs.declared.size.FrameSize.{FrameSize}
 use Rattle.start.proofs.Laws.{opening-reads, opening-size}
 use Rattle.lead.proofs.Laws.{lead-reads, lead-size}
 use Rattle.tail.proofs.Laws.{settings-reads, settings-size, closing-reads, closing-size}

@@ -16,7 +16,7 @@ use Rattle.bits.proofs.Begins.{begins}
 use Rattle.bits.proofs.Fields.{length-flat}
 use Rattle.bits.proofs.Laws.{unique}
 use Rattle.bits.proofs.Told.{past-end-exactly, mark-exactly}
-use Rattle.types.specs.declared.size.FrameSize.{FrameSize}
+use Rattle.settings.specs.declared.size.FrameSize.{FrameSize}
 use Rattle.types.specs.declared.state.ReaderState.{ReaderState}
 use Rattle.verdict.specs.declared.Verdict.the-variants.{Accepted, Refused}
 use Rattle.frame_header.specs.Record.{lengthOf, frameHeader}

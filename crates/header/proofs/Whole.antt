@@ -7,7 +7,7 @@ use mathlib.Core.List.{List}
 use native.Mathlib.Omega.{arith}
 use Rattle.bits.specs.Syntax.{size}
 use Rattle.bits.specs.Reader.{read, pick, bind, groupIf}
-use Rattle.types.specs.declared.size.FrameSize.{FrameSize}
+use Rattle.settings.specs.declared.size.FrameSize.{FrameSize}
 use Rattle.types.specs.declared.state.ReaderState.{ReaderState}
 use Rattle.traits.specs.Traits.{traitsOf}
 use Rattle.traits.specs.Kind.{kindOf}

@@ -4,7 +4,7 @@ use Prim.Native.Nat.{ℕ}
 use mathlib.Core.List.{List, _++_}
 use Rattle.bits.specs.Syntax.{Field}
 use Rattle.bits.specs.Reader.{Reader, give, _>>=_}
-use Rattle.types.specs.declared.size.FrameSize.{FrameSize}
+use Rattle.settings.specs.declared.size.FrameSize.{FrameSize}
 use Rattle.lead.specs.Lead.{LeadValues, noLead, leadFields, LeadLacks, readLead, frameSize}
 use Rattle.tail.specs.Settings.{SettingsValues, noSettings, settingsFields, SettingsLacks, readSettings}
 use Rattle.tail.specs.Closing.{ClosingValues, noClosing, closingFields, ClosingLacks, readClosing}

@@ -5,7 +5,7 @@ use mathlib.Core.Bool.{Bool, not}
 use mathlib.Core.List.{List, _++_}
 use Rattle.bits.specs.Syntax.{Field, flag, optional, Given}
 use Rattle.bits.specs.Reader.{Reader, give, _>>=_, groupIf}
-use Rattle.types.specs.declared.size.FrameSize.{FrameSize}
+use Rattle.settings.specs.declared.size.FrameSize.{FrameSize}
 use Rattle.start.specs.Profile.{profileNumber}
 use Rattle.start.specs.Opening.{OpeningValues, openingFields, OpeningLacks, readOpening}
 use Rattle.header.specs.Frame.{FrameValues, noFrame, frameFields, FrameLacks, readFrame}

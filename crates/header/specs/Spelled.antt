@@ -4,7 +4,7 @@ use Prim.Native.Nat.{ℕ}
 use mathlib.Core.List.{List}
 use Rattle.bits.specs.Bit.{Begins}
 use Rattle.bits.specs.Syntax.{flat, Ranged}
-use Rattle.types.specs.declared.size.FrameSize.{FrameSize}
+use Rattle.settings.specs.declared.size.FrameSize.{FrameSize}
 use Rattle.header.specs.Header.{HeaderValues, headerFields, HeaderLacks}
 
 -- under the remembered sizes, the frame's bits begin with the spelling of the values v: each is in range, and 0 where its spelling lacks it

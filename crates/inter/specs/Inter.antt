@@ -3,7 +3,7 @@
 use mathlib.Core.List.{List, _++_}
 use Rattle.bits.specs.Syntax.{Field}
 use Rattle.bits.specs.Reader.{Reader, give, _>>=_}
-use Rattle.types.specs.declared.size.FrameSize.{FrameSize}
+use Rattle.settings.specs.declared.size.FrameSize.{FrameSize}
 use Rattle.color.specs.declared.Color.{Color}
 use Rattle.refs.specs.Refs.{refsOf}
 use Rattle.size_with_refs.specs.SizeWithRefs.{SizeWithRefsValues, noSizeWithRefs, sizeWithRefsFields, SizeWithRefsLacks, readSizeWithRefs, sizeWithRefsOf}

@@ -10,8 +10,8 @@ use motion::MotionRead;
 use picture::Picture;
 use picture::PictureRead;
 use refs::SourcesRead;
+use settings::FrameSize;
 use sizes::SizesRead;
-use types::FrameSize;
 
 // An inter frame has the colour that is remembered, and may take its size from a remembered one.
 pub fn parse_inter(s: &[u8], c: Cursor, color: Color, slots: [FrameSize; 8]) -> PictureRead

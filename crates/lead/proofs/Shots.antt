@@ -9,7 +9,7 @@ use Rattle.bits.specs.declared.Refusal.the-variants.{PastEnd}
 use Rattle.bits.specs.Syntax.{flag}
 use Rattle.bits.specs.Reader.{Got, Read, got, refused, over, alter, groupIf}
 use Rattle.bits.proofs.Steps.{group-step, group-stop, tail, alter-over}
-use Rattle.types.specs.declared.size.FrameSize.{FrameSize}
+use Rattle.settings.specs.declared.size.FrameSize.{FrameSize}
 use Rattle.traits.specs.declared.Kind.{Kind}
 use Rattle.bits.specs.declared.Cursor.{Cursor}
 use Rattle.traits.specs.declared.KindRead.{KindRead}

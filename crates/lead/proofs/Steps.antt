@@ -7,7 +7,7 @@ use Rattle.bits.specs.declared.Cursor.{Cursor}
 use Rattle.bits.specs.declared.Refusal.{Refusal}
 use Rattle.bits.specs.Reader.{Got, Read, got, refused, bind, over}
 use Rattle.bits.proofs.Steps.{group-step, group-stop}
-use Rattle.types.specs.declared.size.FrameSize.{FrameSize}
+use Rattle.settings.specs.declared.size.FrameSize.{FrameSize}
 use Rattle.traits.specs.declared.Traits.{Traits}
 use Rattle.traits.specs.declared.Context.{Context}
 use Rattle.traits.specs.Traits.{TraitsValues, traitsOf}

@@ -6,7 +6,7 @@ use mathlib.Core.List.{List, _++_}
 use lib.Dec.{eqb}
 use Rattle.bits.specs.Syntax.{Field, flag}
 use Rattle.bits.specs.Reader.{Got, got, refused, Reader, give, _>>=_}
-use Rattle.types.specs.declared.size.FrameSize.{FrameSize}
+use Rattle.settings.specs.declared.size.FrameSize.{FrameSize}
 use Rattle.traits.specs.Traits.{TraitsValues, noTraits, traitsFields, readTraits, traitsOf}
 use Rattle.traits.specs.Context.{ContextValues, noContext, contextFields, ContextLacks, readContext, contextOf}
 use Rattle.color.specs.declared.Color.{Color}

@@ -5,7 +5,7 @@ use mathlib.Core.Bool.{Bool, not, _&&_}
 use mathlib.Core.List.{List, _++_}
 use Rattle.bits.specs.Syntax.{Field, flag, optional, Given}
 use Rattle.bits.specs.Reader.{Got, got, refused, pick, Reader, give, _>>=_, groupIf}
-use Rattle.types.specs.declared.size.FrameSize.{FrameSize}
+use Rattle.settings.specs.declared.size.FrameSize.{FrameSize}
 use Rattle.traits.specs.Kind.{KindValues, noKind, kindFields, KindLacks, readKind, kindOf}
 use Rattle.traits.specs.declared.Kind.{Kind}
 use Rattle.color.specs.declared.Color.{Color}

@@ -9,13 +9,13 @@ use bits::Refusal;
 use color::Color;
 use picture::Picture;
 use picture::PictureRead;
+use settings::FrameSize;
 use traits::Context;
 use traits::ContextRead;
 use traits::Kind;
 use traits::KindRead;
 use traits::Traits;
 use traits::TraitsRead;
-use types::FrameSize;
 
 pub struct Shot {
     pub kind: Kind,

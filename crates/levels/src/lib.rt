@@ -4,7 +4,7 @@ ghost use lib.IntN.{_+ℤ_};
 ghost use Rattle.levels.specs.Levels.{scaled, moved, pairOf, deltaGrid, levelsAt};
 ghost use Rattle.levels.specs.Once.{frameLevels, kept, levelsFrom};
 use grid::Grid;
-use types::LoopFilterParams;
+use settings::LoopFilterParams;
 
 const MAX_LEVEL: u8 = 63;
 

@@ -13,7 +13,7 @@ use Rattle.bits.specs.Reader.{got}
 use Rattle.bits.specs.Many.{Times}
 use Rattle.coded.specs.declared.Delta.{Delta}
 use Rattle.coded.specs.Delta.{DeltaValues, deltaOf}
-use Rattle.types.specs.declared.loop_filter.LoopFilterParams.{LoopFilterParams}
+use Rattle.settings.specs.declared.loop_filter.LoopFilterParams.{LoopFilterParams}
 use Rattle.loop_deltas.specs.declared.RefDeltas.{RefDeltas}
 use Rattle.loop_deltas.specs.declared.ModeDeltas.{ModeDeltas}
 use Rattle.loop_deltas.specs.LoopDeltas.{noRefDeltas, noModeDeltas, refDeltasOf, modeDeltasOf, moved, withFlags, withDeltas, loopDeltasOf}

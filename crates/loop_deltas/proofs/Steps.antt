@@ -15,7 +15,7 @@ use Rattle.bits.specs.Reader.{Got, Read, refused, bind, over, groupIf}
 use Rattle.bits.specs.Many.{Times}
 use Rattle.bits.proofs.Steps.{group-step, group-stop, gave, lacked}
 use Rattle.coded.specs.Delta.{DeltaValues}
-use Rattle.types.specs.declared.loop_filter.LoopFilterParams.{LoopFilterParams}
+use Rattle.settings.specs.declared.loop_filter.LoopFilterParams.{LoopFilterParams}
 use Rattle.loop_deltas.specs.declared.RefDeltas.{RefDeltas}
 use Rattle.loop_deltas.specs.declared.RefDeltasRead.{RefDeltasRead}
 use Rattle.loop_deltas.specs.declared.RefDeltasRead.the-variants.{Value as Refs, Short as NoRefs}

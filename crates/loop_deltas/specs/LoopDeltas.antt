@@ -12,7 +12,7 @@ use Rattle.bits.specs.Many.{Times, Each, manyFields, many}
 use Rattle.bits.specs.declared.Refusal.the-variants.{PastEnd}
 use Rattle.coded.specs.declared.Delta.{Delta}
 use Rattle.coded.specs.Delta.{DeltaValues, noDelta, deltaFields, DeltaLacks, readDelta, deltaOf}
-use Rattle.types.specs.declared.loop_filter.LoopFilterParams.{LoopFilterParams}
+use Rattle.settings.specs.declared.loop_filter.LoopFilterParams.{LoopFilterParams}
 use Rattle.loop_deltas.specs.declared.LoopFilterRead.{LoopFilterRead}
 use Rattle.loop_deltas.specs.declared.RefDeltas.{RefDeltas}
 use Rattle.loop_deltas.specs.declared.RefDeltasRead.{RefDeltasRead}

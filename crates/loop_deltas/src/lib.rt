@@ -22,7 +22,7 @@ use bits::Next;
 use bits::Refusal;
 use coded::Delta;
 use coded::DeltaRead;
-use types::LoopFilterParams;
+use settings::LoopFilterParams;
 
 // What each reference frame adds to the filter's level.
 struct RefDeltas {

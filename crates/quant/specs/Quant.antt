@@ -5,10 +5,10 @@ use mathlib.Core.List.{List}
 use lib.IntN.{ℤ, pos, _+ℤ_}
 use Rattle.enums.specs.declared.BitDepth.{BitDepth}
 use Rattle.enums.specs.declared.SegLvl.the-variants.{AltQ}
-use Rattle.types.specs.declared.quantization.QuantizationParams.{QuantizationParams}
-use Rattle.types.specs.declared.segmentation.SegmentationParams.{SegmentationParams}
+use Rattle.settings.specs.declared.quantization.QuantizationParams.{QuantizationParams}
+use Rattle.settings.specs.declared.segmentation.SegmentationParams.{SegmentationParams}
 use Rattle.enums.specs.Numbered.{pick}
-use Rattle.types.specs.SegmentationParams.{featureActive, featureData}
+use Rattle.settings.specs.SegmentationParams.{featureActive, featureData}
 use Rattle.clamp.specs.Clamp.{clampTo, changed}
 use Rattle.tables.specs.Tables.{dcTable, acTable, entry}
 use Rattle.quant.specs.declared.Scales.{Scales}

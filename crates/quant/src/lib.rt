@@ -5,9 +5,9 @@ ghost use Rattle.clamp.specs.Clamp.{clampTo};
 ghost use Rattle.quant.specs.Quant.{qindexOf, qindex, scaleAt, dcDelta, acDelta, dcQuant, acQuant, scalesAt};
 use enums::BitDepth;
 use enums::SegLvl;
+use settings::QuantizationParams;
+use settings::SegmentationParams;
 use tables::Table;
-use types::QuantizationParams;
-use types::SegmentationParams;
 
 const MAX_Q_INDEX: u8 = 255;
 

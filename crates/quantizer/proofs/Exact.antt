@@ -5,7 +5,7 @@ use mathlib.Core.Path.{_≡_, sym, _∙_}
 use mathlib.Core.Bool.{Bool}
 use mathlib.Core.List.{List}
 use Rattle.bits.specs.Reader.{Got, got, refused, over}
-use Rattle.types.specs.declared.quantization.QuantizationParams.{QuantizationParams}
+use Rattle.settings.specs.declared.quantization.QuantizationParams.{QuantizationParams}
 use Rattle.quantizer.specs.declared.QuantizerRead.{QuantizerRead}
 use Rattle.quantizer.specs.declared.QuantizerRead.the-variants.{Value as Quantizer, Short as NoQuantizer}
 use Rattle.quantizer.specs.Quantizer.{readQuantizer, quantizerOf, viewQuantizer, lossless}

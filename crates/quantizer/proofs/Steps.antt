@@ -12,7 +12,7 @@ use Rattle.bits.specs.declared.Refusal.the-variants.{PastEnd}
 use Rattle.bits.specs.Reader.{Got, Read, read, stopped, refused, bind, over}
 use Rattle.bits.proofs.Steps.{group-step, group-stop}
 use Rattle.coded.specs.Delta.{DeltaValues}
-use Rattle.types.specs.declared.quantization.QuantizationParams.{QuantizationParams}
+use Rattle.settings.specs.declared.quantization.QuantizationParams.{QuantizationParams}
 use Rattle.quantizer.specs.declared.DeltaQRead.{DeltaQRead}
 use Rattle.quantizer.specs.declared.DeltaQRead.the-variants.{Value as DeltaQ, Short as NoDeltaQ}
 use Rattle.quantizer.specs.declared.QuantizerRead.{QuantizerRead}

@@ -11,7 +11,7 @@ use Rattle.bits.specs.Syntax.{Field, fld}
 use Rattle.bits.specs.Reader.{Got, got, refused, Reader, give, _>>=_, field, over}
 use Rattle.bits.specs.declared.Refusal.the-variants.{PastEnd}
 use Rattle.coded.specs.Delta.{DeltaValues, noDelta, deltaFields, DeltaLacks, readDelta, deltaOf}
-use Rattle.types.specs.declared.quantization.QuantizationParams.{QuantizationParams}
+use Rattle.settings.specs.declared.quantization.QuantizationParams.{QuantizationParams}
 use Rattle.quantizer.specs.declared.DeltaQRead.{DeltaQRead}
 use Rattle.quantizer.specs.declared.DeltaQRead.the-variants.{Value as Coded, Short as Cut}
 use Rattle.quantizer.specs.declared.QuantizerRead.{QuantizerRead}

@@ -11,7 +11,7 @@ ghost use Rattle.quantizer.specs.Quantizer.{
 use bits::Bits;
 use bits::Cursor;
 use coded::DeltaRead;
-use types::QuantizationParams;
+use settings::QuantizationParams;
 
 enum DeltaQRead {
     Value(i8, Cursor),

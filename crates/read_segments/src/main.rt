@@ -11,10 +11,10 @@ use enums::Profile;
 use libc::STDIN_FILENO;
 use libc::STDOUT_FILENO;
 use segments::Segmentation;
+use settings::LoopFilterParams;
+use settings::QuantizationParams;
+use settings::SegmentationParams;
 use types::Header;
-use types::LoopFilterParams;
-use types::QuantizationParams;
-use types::SegmentationParams;
 
 // After a case: the records, and whether another may follow.
 struct After {

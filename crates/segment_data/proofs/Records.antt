@@ -5,7 +5,7 @@ use mathlib.Core.Path.{_≡_}
 use lib.Dec.{eqb}
 use borrow.Author.Tests.{eq-eqb, ne-eqb}
 use Rattle.bits.specs.Reader.{got}
-use Rattle.types.specs.declared.segmentation.SegmentationParams.{SegmentationParams}
+use Rattle.settings.specs.declared.segmentation.SegmentationParams.{SegmentationParams}
 use Rattle.segment_data.specs.declared.Features.{Features}
 use Rattle.segment_data.specs.Features.{FeaturesValues, featuresOf}
 use Rattle.segment_data.specs.Data.{withData, dataOf}

@@ -9,7 +9,7 @@ use bits::Next;
 use bits::Refusal;
 use feature::FeatureRead;
 use segment_map::SegmentationRead;
-use types::SegmentationParams;
+use settings::SegmentationParams;
 
 // The features of all segments, segment after segment in each row.
 struct Features {

@@ -6,7 +6,7 @@ use mathlib.Core.List.{List}
 use Rattle.bits.specs.declared.Next.{Next}
 use Rattle.bits.specs.declared.Next.the-variants.{At, Refused}
 use Rattle.bits.specs.Reader.{Got, got, refused, viewNext}
-use Rattle.types.specs.declared.segmentation.SegmentationParams.{SegmentationParams}
+use Rattle.settings.specs.declared.segmentation.SegmentationParams.{SegmentationParams}
 use Rattle.segment_map.specs.declared.SegmentationRead.{SegmentationRead}
 use Rattle.segment_map.specs.Answer.{Kept, viewSegmentation}
 use Rattle.segment_map.specs.Map.{MapIs}

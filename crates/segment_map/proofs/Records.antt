@@ -12,7 +12,7 @@ use Rattle.bits.specs.declared.Next.{Next}
 use Rattle.bits.specs.declared.Next.the-variants.{At, Refused}
 use Rattle.bits.specs.Reader.{got, groupIf}
 use Rattle.coded.specs.Prob.{noProb, probOf}
-use Rattle.types.specs.declared.segmentation.SegmentationParams.{SegmentationParams}
+use Rattle.settings.specs.declared.segmentation.SegmentationParams.{SegmentationParams}
 use Rattle.segment_map.specs.declared.ProbsRead.{ProbsRead}
 use Rattle.segment_map.specs.Times.{eachOf}
 use Rattle.segment_map.specs.Probs.{ProbsValues, probsOf, ProbsAre, ProbsAreIf}

@@ -4,7 +4,7 @@ use mathlib.Core.Path.{_≡_}
 use Rattle.bits.specs.Reader.{Got, viewNext}
 use Rattle.bits.specs.declared.Next.{Next}
 use Rattle.bits.specs.declared.Next.the-variants.{At, Refused}
-use Rattle.types.specs.declared.segmentation.SegmentationParams.{SegmentationParams}
+use Rattle.settings.specs.declared.segmentation.SegmentationParams.{SegmentationParams}
 use Rattle.segment_map.specs.declared.SegmentationRead.{SegmentationRead}
 
 abbrev pub viewSegmentation : SegmentationRead → Got SegmentationParams

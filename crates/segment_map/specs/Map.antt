@@ -8,7 +8,7 @@ use Rattle.bits.specs.Refusal.{the}
 use Rattle.bits.specs.Syntax.{Field, fld, flag, optional, Coded, Given}
 use Rattle.bits.specs.Reader.{pick, Reader, give, _>>=_, field, fieldIf, groupIf, over}
 use Rattle.coded.specs.Prob.{probOf}
-use Rattle.types.specs.declared.segmentation.SegmentationParams.{SegmentationParams}
+use Rattle.settings.specs.declared.segmentation.SegmentationParams.{SegmentationParams}
 use Rattle.segment_map.specs.declared.SegmentationRead.{SegmentationRead}
 use Rattle.segment_map.specs.Answer.{viewSegmentation, Kept}
 use Rattle.segment_map.specs.Times.{eachOf}

@@ -9,7 +9,7 @@ use bits::Cursor;
 use bits::Next;
 use bits::Refusal;
 use coded::ProbRead;
-use types::SegmentationParams;
+use settings::SegmentationParams;
 
 // As many probabilities as were asked for stand at the front; the other places are 255.
 struct ProbsRead {

@@ -7,7 +7,7 @@ use Rattle.bits.specs.declared.Cursor.{Cursor}
 use Rattle.bits.specs.declared.Next.{Next}
 use Rattle.bits.specs.declared.Next.the-variants.{At}
 use Rattle.bits.specs.Reader.{got, viewNext}
-use Rattle.types.specs.declared.segmentation.SegmentationParams.{SegmentationParams}
+use Rattle.settings.specs.declared.segmentation.SegmentationParams.{SegmentationParams}
 use Rattle.segment_map.specs.Map.{MapValues, noMap, mapOf}
 use Rattle.segment_data.specs.Data.{DataValues, noData, dataOf}
 use Rattle.segmentation.specs.Segmentation.{switched, segmentationOf}

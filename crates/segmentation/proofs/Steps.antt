@@ -8,7 +8,7 @@ use Rattle.bits.specs.declared.Next.the-variants.{At, Refused}
 use Rattle.bits.specs.declared.Refusal.{Refusal}
 use Rattle.bits.specs.Reader.{Got, Read, refused, bind, over}
 use Rattle.bits.proofs.Steps.{group-stop, lacked}
-use Rattle.types.specs.declared.segmentation.SegmentationParams.{SegmentationParams}
+use Rattle.settings.specs.declared.segmentation.SegmentationParams.{SegmentationParams}
 use Rattle.segment_map.specs.declared.SegmentationRead.{SegmentationRead}
 use Rattle.segmentation.specs.Segmentation.{SegmentationValues, readSegmentation, segmentationOf, SegmentationIs}
 use Rattle.segment_map.proofs.Steps.{beside-step}

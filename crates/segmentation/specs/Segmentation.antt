@@ -7,7 +7,7 @@ use mathlib.Core.List.{List, _∷_, _++_}
 use Rattle.bits.specs.Refusal.{the}
 use Rattle.bits.specs.Syntax.{Field, fld, flag, optional, Given}
 use Rattle.bits.specs.Reader.{Reader, give, _>>=_, field, groupIf, over}
-use Rattle.types.specs.declared.segmentation.SegmentationParams.{SegmentationParams}
+use Rattle.settings.specs.declared.segmentation.SegmentationParams.{SegmentationParams}
 use Rattle.segment_map.specs.Map.{MapValues, noMap, mapFields, MapLacks, readMap, mapOf}
 use Rattle.segment_data.specs.Data.{DataValues, noData, dataFields, DataLacks, readData, dataOf}
 use Rattle.segment_map.specs.Answer.{viewSegmentation, Kept}

@@ -5,7 +5,7 @@ use bits::Cursor;
 use bits::Next;
 use bits::Refusal;
 use segment_map::SegmentationRead;
-use types::SegmentationParams;
+use settings::SegmentationParams;
 
 // The two updates are false unless they are read; what isn't coded keeps its remembered value.
 pub fn parse_segmentation_params(s: &[u8], c: Cursor, old: SegmentationParams) -> SegmentationRead

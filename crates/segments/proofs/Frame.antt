@@ -6,7 +6,7 @@ use Prim.Native.Nat.{ℕ}
 use lib.IntN.{ℤ}
 use Rattle.enums.specs.declared.BitDepth.{BitDepth}
 use Rattle.types.specs.declared.header.Header.{Header}
-use Rattle.types.specs.declared.quantization.QuantizationParams.{QuantizationParams}
+use Rattle.settings.specs.declared.quantization.QuantizationParams.{QuantizationParams}
 use Rattle.enums.specs.Numbered.{pick}
 use Rattle.clamp.specs.Clamp.{clampTo, changed}
 use Rattle.tables.specs.Tables.{dcTable, acTable}

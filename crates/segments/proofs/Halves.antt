@@ -3,8 +3,8 @@ use mathlib.Core.Path.{_≡_, refl}
 use Prim.Native.Nat.{ℕ}
 use Rattle.enums.specs.declared.BitDepth.{BitDepth}
 use Rattle.types.specs.declared.header.Header.{Header}
-use Rattle.types.specs.declared.quantization.QuantizationParams.{QuantizationParams}
-use Rattle.types.specs.declared.segmentation.SegmentationParams.{SegmentationParams}
+use Rattle.settings.specs.declared.quantization.QuantizationParams.{QuantizationParams}
+use Rattle.settings.specs.declared.segmentation.SegmentationParams.{SegmentationParams}
 use Rattle.grid.specs.Grid.{gridOf, rowOf}
 use Rattle.quant.specs.Quant.{qindex, dcQuant, acQuant, scalesAt, scalesOf}
 use Rattle.segments.specs.declared.entries.Entries.{Entries}

@@ -1,7 +1,7 @@
 -- The scales of a segment and its reference and skip entries.
 use Prim.Native.Nat.{ℕ}
 use Rattle.enums.specs.declared.BitDepth.{BitDepth}
-use Rattle.types.specs.declared.quantization.QuantizationParams.{QuantizationParams}
+use Rattle.settings.specs.declared.quantization.QuantizationParams.{QuantizationParams}
 use Rattle.tables.specs.Tables.{dcTable, acTable}
 use Rattle.quant.specs.declared.Scales.{Scales}
 use Rattle.quant.specs.Quant.{qindexOf, scalesAt}

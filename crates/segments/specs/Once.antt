@@ -2,9 +2,9 @@
 use Prim.Native.Nat.{ℕ}
 use mathlib.Core.List.{List}
 use lib.IntN.{ℤ}
-use Rattle.types.specs.declared.loop_filter.LoopFilterParams.{LoopFilterParams}
-use Rattle.types.specs.declared.quantization.QuantizationParams.{QuantizationParams}
-use Rattle.types.specs.declared.segmentation.SegmentationParams.{SegmentationParams}
+use Rattle.settings.specs.declared.loop_filter.LoopFilterParams.{LoopFilterParams}
+use Rattle.settings.specs.declared.quantization.QuantizationParams.{QuantizationParams}
+use Rattle.settings.specs.declared.segmentation.SegmentationParams.{SegmentationParams}
 use Rattle.enums.specs.Numbered.{pick}
 use Rattle.clamp.specs.Clamp.{clampTo, changed}
 use Rattle.grid.specs.Grid.{gridOf, rowOf}

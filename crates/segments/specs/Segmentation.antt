@@ -5,7 +5,7 @@ use mathlib.Core.List.{List}
 use lib.IntN.{pos}
 use lib.ListN.{replicate}
 use Rattle.types.specs.declared.header.Header.{Header}
-use Rattle.types.specs.declared.loop_filter.LoopFilterParams.{LoopFilterParams}
+use Rattle.settings.specs.declared.loop_filter.LoopFilterParams.{LoopFilterParams}
 use Rattle.grid.specs.Grid.{gridOf, rowOf}
 use Rattle.levels.specs.Levels.{levelsOf}
 use Rattle.segments.specs.declared.entries.Entries.{Entries}

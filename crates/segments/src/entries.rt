@@ -5,7 +5,6 @@ ghost use Rattle.segments.specs.Once.{scalesFrom};
 use quant::Scales;
 use segment_features::Features;
 use tables::Table;
-use types::QuantizationParams;
 
 const MAX_Q_INDEX: u8 = 255;
 

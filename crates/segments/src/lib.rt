@@ -13,9 +13,6 @@ use quant::Scales;
 use segment_features::Features;
 use tables::Table;
 use types::Header;
-use types::LoopFilterParams;
-use types::QuantizationParams;
-use types::SegmentationParams;
 
 // The level of reference r in mode m stands at r * 2 + m of lvl_lookup.
 pub struct Segmentation {

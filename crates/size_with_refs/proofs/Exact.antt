@@ -5,7 +5,7 @@ use mathlib.Core.Path.{_≡_, sym, _∙_}
 use mathlib.Core.List.{List}
 use Rattle.bits.specs.Refusal.{the}
 use Rattle.bits.specs.Reader.{over}
-use Rattle.types.specs.declared.size.FrameSize.{FrameSize}
+use Rattle.settings.specs.declared.size.FrameSize.{FrameSize}
 use Rattle.sizes.specs.declared.SizesRead.{SizesRead}
 use Rattle.refs.specs.declared.Refs.{Refs}
 use Rattle.sizes.specs.Sizes.{viewSizes}

@@ -7,7 +7,7 @@ use Rattle.bits.specs.declared.Cursor.{Cursor}
 use Rattle.bits.specs.declared.Refusal.the-variants.{PastEnd}
 use Rattle.bits.specs.Reader.{Got, Read, refused, bind, over}
 use Rattle.bits.proofs.Steps.{group-step, group-stop}
-use Rattle.types.specs.declared.size.FrameSize.{FrameSize}
+use Rattle.settings.specs.declared.size.FrameSize.{FrameSize}
 use Rattle.sizes.specs.declared.Sizes.{Sizes}
 use Rattle.sizes.specs.declared.SizesRead.{SizesRead}
 use Rattle.sizes.specs.declared.SizesRead.the-variants.{Value as Both, Short as NoSizes}

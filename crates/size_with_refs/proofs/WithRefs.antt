@@ -13,8 +13,8 @@ use Rattle.bits.specs.Reader.{Got, Read, read, stopped, got, refused, bind, gro
 use Rattle.bits.proofs.Steps.{group-step, group-stop, tail}
 use Rattle.coded.specs.Run.{readRun}
 use Rattle.coded.proofs.Run.{Counted, counted-full}
-use Rattle.types.specs.FrameSize.{noSize}
-use Rattle.types.specs.declared.size.FrameSize.{FrameSize}
+use Rattle.settings.specs.FrameSize.{noSize}
+use Rattle.settings.specs.declared.size.FrameSize.{FrameSize}
 use Rattle.size_with_refs.specs.declared.Found.{Found}
 use Rattle.size_with_refs.specs.declared.Found.the-variants.{At, Nothing, Short}
 use Rattle.refs.specs.declared.Refs.{Refs}

@@ -10,8 +10,8 @@ use Rattle.bits.specs.Reader.{Got, got, refused, Reader, give, _>>=_, groupIf, 
 use Rattle.bits.specs.Law.{Any}
 use Rattle.bits.specs.declared.Refusal.the-variants.{PastEnd}
 use Rattle.coded.specs.Run.{runFields, readRun}
-use Rattle.types.specs.FrameSize.{noSize}
-use Rattle.types.specs.declared.size.FrameSize.{FrameSize}
+use Rattle.settings.specs.FrameSize.{noSize}
+use Rattle.settings.specs.declared.size.FrameSize.{FrameSize}
 use Rattle.sizes.specs.Size.{SizeValues, noSizeValues, frameFields, readFrameSize, sizeOr}
 use Rattle.sizes.specs.Render.{RenderValues, noRender, renderFields, RenderLacks, readRender}
 use Rattle.sizes.specs.Sizes.{withRender}

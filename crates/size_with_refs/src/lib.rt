@@ -7,8 +7,8 @@ ghost use Rattle.size_with_refs.specs.SizeWithRefs.{FoundIs, refSlot, sl
 use bits::Bits;
 use bits::Cursor;
 use refs::Refs;
+use settings::FrameSize;
 use sizes::SizesRead;
-use types::FrameSize;
 use types::ReaderState;
 
 pub const REFS_PER_FRAME: usize = 3;

@@ -5,7 +5,7 @@ use mathlib.Core.Path.{_≡_, sym, _∙_}
 use mathlib.Core.List.{List}
 use Rattle.bits.specs.Refusal.{Name, the}
 use Rattle.bits.specs.Reader.{Got, got, refused, over}
-use Rattle.types.specs.declared.size.FrameSize.{FrameSize}
+use Rattle.settings.specs.declared.size.FrameSize.{FrameSize}
 use Rattle.sizes.specs.declared.SizeRead.{SizeRead}
 use Rattle.sizes.specs.declared.SizeRead.the-variants.{Value, Short}
 use Rattle.sizes.specs.declared.Sizes.{Sizes}

@@ -7,7 +7,7 @@ use mathlib.Core.List.{List}
 use lib.Dec.{eqb}
 use Rattle.bits.specs.declared.Cursor.{Cursor}
 use Rattle.bits.specs.Reader.{got, groupIf}
-use Rattle.types.specs.declared.size.FrameSize.{FrameSize}
+use Rattle.settings.specs.declared.size.FrameSize.{FrameSize}
 use Rattle.sizes.specs.declared.SizeRead.{SizeRead}
 use Rattle.sizes.specs.declared.SizeRead.the-variants.{Value as Size}
 use Rattle.sizes.specs.Size.{SizeValues, sizeOf, sizeOr, SizeIs, SizeOrIs}

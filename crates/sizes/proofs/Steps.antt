@@ -9,7 +9,7 @@ use Rattle.bits.specs.declared.Refusal.the-variants.{PastEnd}
 use Rattle.bits.specs.Refusal.{Name}
 use Rattle.bits.specs.Reader.{Got, Read, refused, bind, groupIf, over}
 use Rattle.bits.proofs.Steps.{group-step, group-stop}
-use Rattle.types.specs.declared.size.FrameSize.{FrameSize}
+use Rattle.settings.specs.declared.size.FrameSize.{FrameSize}
 use Rattle.sizes.specs.declared.SizeRead.{SizeRead}
 use Rattle.sizes.specs.declared.SizeRead.the-variants.{Value, Short}
 use Rattle.sizes.specs.declared.Sizes.{Sizes}

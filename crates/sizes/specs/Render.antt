@@ -6,7 +6,7 @@ use Rattle.bits.specs.Refusal.{the}
 use Rattle.bits.specs.Syntax.{Field, fld, flag, optional, Given}
 use Rattle.bits.specs.Reader.{Reader, give, _>>=_, field, groupIf}
 use Rattle.bits.specs.Law.{Any}
-use Rattle.types.specs.declared.size.FrameSize.{FrameSize}
+use Rattle.settings.specs.declared.size.FrameSize.{FrameSize}
 use Rattle.sizes.specs.Size.{SizeValues, noSizeValues, sizeFields, readSize, sizeOr}
 use Rattle.sizes.specs.declared.Render.{Render}
 

@@ -8,7 +8,7 @@ use Rattle.bits.specs.Refusal.{Name, the}
 use Rattle.bits.specs.Syntax.{Field, fld}
 use Rattle.bits.specs.Reader.{Got, got, refused, pick, Reader, give, _>>=_, field, groupIf, over}
 use Rattle.bits.specs.declared.Refusal.the-variants.{PastEnd}
-use Rattle.types.specs.declared.size.FrameSize.{FrameSize}
+use Rattle.settings.specs.declared.size.FrameSize.{FrameSize}
 use Rattle.sizes.specs.declared.SizeRead.{SizeRead}
 use Rattle.sizes.specs.declared.SizeRead.the-variants.{Value, Short}
 

@@ -4,7 +4,7 @@ use mathlib.Core.List.{List, _++_}
 use Rattle.bits.specs.Syntax.{Field}
 use Rattle.bits.specs.Reader.{Got, got, refused, Reader, give, _>>=_}
 use Rattle.bits.specs.declared.Refusal.the-variants.{PastEnd}
-use Rattle.types.specs.declared.size.FrameSize.{FrameSize}
+use Rattle.settings.specs.declared.size.FrameSize.{FrameSize}
 use Rattle.sizes.specs.Size.{SizeValues, noSizeValues, frameFields, readFrameSize, sizeOf}
 use Rattle.sizes.specs.Render.{RenderValues, noRender, renderFields, RenderLacks, readRender, renderOf}
 use Rattle.sizes.specs.declared.Sizes.{Sizes}

@@ -6,7 +6,7 @@ ghost use Rattle.sizes.specs.Render.{readRender};
 ghost use Rattle.sizes.specs.Sizes.{readSizes, withRender, sizesOf, viewSizes};
 use bits::Bits;
 use bits::Cursor;
-use types::FrameSize;
+use settings::FrameSize;
 
 pub enum SizeRead {
     Value(FrameSize, Cursor),

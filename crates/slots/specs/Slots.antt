@@ -5,7 +5,7 @@ use mathlib.Core.Bool.{Bool}
 use mathlib.Core.List.{List, [], _∷_}
 use lib.Dec.{eqb}
 use Rattle.enums.specs.Numbered.{pick}
-use Rattle.types.specs.declared.size.FrameSize.{FrameSize}
+use Rattle.settings.specs.declared.size.FrameSize.{FrameSize}
 
 -- f of each element and its number, from number i on
 unfoldable pub each : {A : Type 0} → (ℕ → A → A) → ℕ → List A → List A

@@ -2,7 +2,7 @@
 ghost use Prim.Native.Nat.{_<_};
 ghost use mathlib.Core.Path.{_≡_};
 ghost use Rattle.slots.specs.Slots.{slotAfter, refreshed};
-use types::FrameSize;
+use settings::FrameSize;
 use types::ReaderState;
 
 fn slot_after(flags: u8, i: usize, new: FrameSize, old: FrameSize) -> FrameSize

@@ -8,8 +8,8 @@ use Rattle.bits.specs.declared.Next.{Next}
 use Rattle.bits.specs.declared.Next.the-variants.{At, Refused}
 use Rattle.bits.specs.Reader.{Got, got, refused, viewNext}
 use Rattle.bits.proofs.Exact.{one-of}
-use Rattle.types.specs.declared.loop_filter.LoopFilterParams.{LoopFilterParams}
-use Rattle.types.specs.declared.segmentation.SegmentationParams.{SegmentationParams}
+use Rattle.settings.specs.declared.loop_filter.LoopFilterParams.{LoopFilterParams}
+use Rattle.settings.specs.declared.segmentation.SegmentationParams.{SegmentationParams}
 use Rattle.tail.specs.declared.Settings.{Settings}
 use Rattle.tail.specs.declared.SettingsRead.{SettingsRead}
 use Rattle.tail.specs.declared.Closing.{Closing}

@@ -15,9 +15,9 @@ use Rattle.bits.specs.declared.Refusal.{Refusal}
 use Rattle.bits.specs.Read.{readBits}
 use Rattle.bits.specs.Reader.{Got, got, refused, viewNext}
 use Rattle.bits.proofs.Steps.{value-lt}
-use Rattle.types.specs.declared.loop_filter.LoopFilterParams.{LoopFilterParams}
-use Rattle.types.specs.declared.quantization.QuantizationParams.{QuantizationParams}
-use Rattle.types.specs.declared.segmentation.SegmentationParams.{SegmentationParams}
+use Rattle.settings.specs.declared.loop_filter.LoopFilterParams.{LoopFilterParams}
+use Rattle.settings.specs.declared.quantization.QuantizationParams.{QuantizationParams}
+use Rattle.settings.specs.declared.segmentation.SegmentationParams.{SegmentationParams}
 use Rattle.filter.specs.LoopFilter.{LoopFilterValues, loopFilterOf}
 use Rattle.quantizer.specs.Quantizer.{QuantizerValues, quantizerOf}
 use Rattle.segmentation.specs.Segmentation.{SegmentationValues, segmentationOf}

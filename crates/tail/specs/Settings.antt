@@ -8,11 +8,11 @@ use Rattle.bits.specs.Syntax.{Field}
 use Rattle.bits.specs.Reader.{Got, pick, Reader, give, _>>=_, over, viewNext}
 use Rattle.bits.specs.declared.Next.{Next}
 use Rattle.bits.specs.declared.Next.the-variants.{At, Refused}
-use Rattle.types.specs.LoopFilterParams.{resetFilter}
-use Rattle.types.specs.QuantizationParams.{defaultQuantization}
-use Rattle.types.specs.SegmentationParams.{resetSegmentation}
-use Rattle.types.specs.declared.loop_filter.LoopFilterParams.{LoopFilterParams}
-use Rattle.types.specs.declared.segmentation.SegmentationParams.{SegmentationParams}
+use Rattle.settings.specs.LoopFilterParams.{resetFilter}
+use Rattle.settings.specs.QuantizationParams.{defaultQuantization}
+use Rattle.settings.specs.SegmentationParams.{resetSegmentation}
+use Rattle.settings.specs.declared.loop_filter.LoopFilterParams.{LoopFilterParams}
+use Rattle.settings.specs.declared.segmentation.SegmentationParams.{SegmentationParams}
 use Rattle.filter.specs.LoopFilter.{LoopFilterValues, noLoopFilter, loopFilterFields, LoopFilterLacks, readLoopFilter, loopFilterOf}
 use Rattle.quantizer.specs.Quantizer.{QuantizerValues, noQuantizer, quantizerFields, QuantizerLacks, readQuantizer, quantizerOf}
 use Rattle.segment_map.specs.Map.{noMap}

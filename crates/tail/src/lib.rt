@@ -8,11 +8,11 @@ use bits::Cursor;
 use bits::Next;
 use bits::Refusal;
 use quantizer::QuantizerRead;
+use settings::LoopFilterParams;
+use settings::QuantizationParams;
+use settings::SegmentationParams;
 use tiles::Tiles;
 use tiles::TilesRead;
-use types::LoopFilterParams;
-use types::QuantizationParams;
-use types::SegmentationParams;
 
 pub struct Settings {
     pub lf: LoopFilterParams,

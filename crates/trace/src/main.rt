@@ -14,12 +14,12 @@ use ivf::FileRead;
 use libc::STDIN_FILENO;
 use libc::STDOUT_FILENO;
 use segments::Segmentation;
-use types::FrameSize;
+use settings::FrameSize;
+use settings::LoopFilterParams;
+use settings::QuantizationParams;
+use settings::SegmentationParams;
 use types::Header;
-use types::LoopFilterParams;
-use types::QuantizationParams;
 use types::ReaderState;
-use types::SegmentationParams;
 
 // Everything is printed by its form: the text, with marks in it. # stands for a number, ? for true or false, <a|b> for one of some words, and
 // @ ends a form. Each value takes the place up to which its form is printed, prints the text before its mark and itself, and answers the place

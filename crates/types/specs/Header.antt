@@ -2,9 +2,9 @@
 use Prim.Native.Nat.{ℕ}
 use mathlib.Core.Bool.{Bool, true, false}
 use lib.ListN.{replicate}
-use Rattle.types.specs.LoopFilterParams.{defaultFilter}
-use Rattle.types.specs.QuantizationParams.{defaultQuantization}
-use Rattle.types.specs.SegmentationParams.{defaultSegmentation}
+use Rattle.settings.specs.LoopFilterParams.{defaultFilter}
+use Rattle.settings.specs.QuantizationParams.{defaultQuantization}
+use Rattle.settings.specs.SegmentationParams.{defaultSegmentation}
 use Rattle.enums.specs.declared.BitDepth.the-variants.{Depth8}
 use Rattle.enums.specs.declared.ColorRange.the-variants.{StudioSwing}
 use Rattle.enums.specs.declared.ColorSpace.the-variants.{Unknown}

@@ -1,6 +1,2 @@
-pub mod FrameSize
-pub mod LoopFilterParams
-pub mod QuantizationParams
-pub mod SegmentationParams
 pub mod Header
 pub mod ReaderState

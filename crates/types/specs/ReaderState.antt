@@ -1,9 +1,9 @@
 -- ReaderState: the fresh state, with depth 8, and else 0 or false, and sizes 0x0.
 use mathlib.Core.Bool.{false}
 use lib.ListN.{replicate}
-use Rattle.types.specs.FrameSize.{noSize}
-use Rattle.types.specs.LoopFilterParams.{defaultFilter}
-use Rattle.types.specs.SegmentationParams.{defaultSegmentation}
+use Rattle.settings.specs.FrameSize.{noSize}
+use Rattle.settings.specs.LoopFilterParams.{defaultFilter}
+use Rattle.settings.specs.SegmentationParams.{defaultSegmentation}
 use Rattle.enums.specs.declared.BitDepth.the-variants.{Depth8}
 use Rattle.enums.specs.declared.ColorRange.the-variants.{StudioSwing}
 use Rattle.enums.specs.declared.ColorSpace.the-variants.{Unknown}

@@ -1,15 +1,15 @@
 // A frame's header, with the filter, quantizer and segmentation settings that hold for the frame.
 ghost use mathlib.Core.Path.{_≡_};
 ghost use Rattle.types.specs.Header.{defaultHeader, showingHeader};
-use crate::loop_filter::LoopFilterParams;
-use crate::quantization::QuantizationParams;
-use crate::segmentation::SegmentationParams;
 use enums::BitDepth;
 use enums::ColorRange;
 use enums::ColorSpace;
 use enums::FrameType;
 use enums::InterpolationFilter;
 use enums::Profile;
+use settings::LoopFilterParams;
+use settings::QuantizationParams;
+use settings::SegmentationParams;
 
 pub struct Header {
     pub profile: Profile,

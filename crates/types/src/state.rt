@@ -1,12 +1,12 @@
 // What a reader remembers from frame to frame.
 ghost use mathlib.Core.Path.{_≡_};
 ghost use Rattle.types.specs.ReaderState.{freshState};
-use crate::loop_filter::LoopFilterParams;
-use crate::segmentation::SegmentationParams;
-use crate::size::FrameSize;
 use enums::BitDepth;
 use enums::ColorRange;
 use enums::ColorSpace;
+use settings::FrameSize;
+use settings::LoopFilterParams;
+use settings::SegmentationParams;
 
 pub struct ReaderState {
     pub bit_depth: BitDepth,

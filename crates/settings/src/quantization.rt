@@ -1,6 +1,6 @@
 // The quantizer settings of a frame.
 ghost use mathlib.Core.Path.{_≡_};
-ghost use Rattle.types.specs.QuantizationParams.{defaultQuantization};
+ghost use Rattle.settings.specs.QuantizationParams.{defaultQuantization};
 
 pub struct QuantizationParams {
     pub base_q_idx: u8,

@@ -1,10 +1,10 @@
 -- `SegmentationParams::is_feature_enabled` meets its contract. Assumes nothing.
 use borrow.Author.Needs.{needs}
-use Rattle.types.proofs.Features.{features}
-use Rattle.types.proofs.segmentation.SegmentationParams.is_feature_enabled.Statement.{
+use Rattle.settings.proofs.Features.{features}
+use Rattle.settings.proofs.segmentation.SegmentationParams.is_feature_enabled.Statement.{
   statement,
 }
-use Rattle.types.proofs.segmentation.SegmentationParams.is_feature_enabled.Tie as tie
+use Rattle.settings.proofs.segmentation.SegmentationParams.is_feature_enabled.Tie as tie
 
 place-requires : tie.Need-place-requires
 place-requires c κs = search needs

@@ -3,7 +3,7 @@ use mathlib.Core.List.{[], _∷_}
 use mathlib.Core.Bool.{false}
 use lib.IntN.{pos, negsuc}
 use lib.ListN.{replicate}
-use Rattle.types.specs.declared.loop_filter.LoopFilterParams.{LoopFilterParams}
+use Rattle.settings.specs.declared.loop_filter.LoopFilterParams.{LoopFilterParams}
 
 abbrev pub defaultFilter : LoopFilterParams
 defaultFilter =

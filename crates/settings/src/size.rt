@@ -1,6 +1,6 @@
 // A frame's size in pixels.
 ghost use mathlib.Core.Path.{_≡_};
-ghost use Rattle.types.specs.FrameSize.{noSize};
+ghost use Rattle.settings.specs.FrameSize.{noSize};
 
 pub struct FrameSize {
     pub width: u32,

@@ -1,6 +1,6 @@
 -- QuantizationParams: the default, all 0.
 use lib.IntN.{pos}
-use Rattle.types.specs.declared.quantization.QuantizationParams.{QuantizationParams}
+use Rattle.settings.specs.declared.quantization.QuantizationParams.{QuantizationParams}
 
 abbrev pub defaultQuantization : QuantizationParams
 defaultQuantization =

@@ -2,9 +2,9 @@
 use borrow.Author.Needs.{needs}
 use native.Mathlib.Omega.{arith}
 use Prim.Native.Nat.{_<_}
-use Rattle.types.proofs.Features.{features}
-use Rattle.types.proofs.segmentation.SegmentationParams.feature_data.Statement.{statement}
-use Rattle.types.proofs.segmentation.SegmentationParams.feature_data.Tie as tie
+use Rattle.settings.proofs.Features.{features}
+use Rattle.settings.proofs.segmentation.SegmentationParams.feature_data.Statement.{statement}
+use Rattle.settings.proofs.segmentation.SegmentationParams.feature_data.Tie as tie
 
 place-requires : tie.Need-place-requires
 place-requires c κs = search needs

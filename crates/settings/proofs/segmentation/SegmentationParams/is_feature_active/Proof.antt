@@ -1,10 +1,10 @@
 -- `SegmentationParams::is_feature_active` meets its contract. Assumes nothing.
 use borrow.Author.Needs.{needs}
-use Rattle.types.proofs.Features.{features}
-use Rattle.types.proofs.segmentation.SegmentationParams.is_feature_active.Statement.{
+use Rattle.settings.proofs.Features.{features}
+use Rattle.settings.proofs.segmentation.SegmentationParams.is_feature_active.Statement.{
   statement,
 }
-use Rattle.types.proofs.segmentation.SegmentationParams.is_feature_active.Tie as tie
+use Rattle.settings.proofs.segmentation.SegmentationParams.is_feature_active.Tie as tie
 
 is-feature-enabled-requires : tie.Need-is-feature-enabled-requires
 is-feature-enabled-requires c κs = search needs

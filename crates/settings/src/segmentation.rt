@@ -2,7 +2,7 @@
 ghost use mathlib.Core.Path.{_≡_};
 ghost use Prim.Native.Nat.{_+_, _*_};
 ghost use Rattle.enums.specs.SegLvl.{segLvlNumber};
-ghost use Rattle.types.specs.SegmentationParams.{
+ghost use Rattle.settings.specs.SegmentationParams.{
   defaultSegmentation,
   resetSegmentation,
   featureEnabled,

@@ -1,5 +1,5 @@
 -- FrameSize: the size 0x0.
-use Rattle.types.specs.declared.size.FrameSize.{FrameSize}
+use Rattle.settings.specs.declared.size.FrameSize.{FrameSize}
 
 abbrev pub noSize : FrameSize
 noSize = record { width = 0; height = 0 }

@@ -8,7 +8,7 @@ use lib.ListN.{getD, replicate}
 use Rattle.enums.specs.Numbered.{pick}
 use Rattle.enums.specs.SegLvl.{segLvlNumber}
 use Rattle.enums.specs.declared.SegLvl.{SegLvl}
-use Rattle.types.specs.declared.segmentation.SegmentationParams.{SegmentationParams}
+use Rattle.settings.specs.declared.segmentation.SegmentationParams.{SegmentationParams}
 
 abbrev pub defaultSegmentation : SegmentationParams
 defaultSegmentation =

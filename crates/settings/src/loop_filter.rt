@@ -1,6 +1,6 @@
 // The loop filter settings, which a state remembers from frame to frame.
 ghost use mathlib.Core.Path.{_≡_};
-ghost use Rattle.types.specs.LoopFilterParams.{defaultFilter, resetFilter};
+ghost use Rattle.settings.specs.LoopFilterParams.{defaultFilter, resetFilter};
 
 pub struct LoopFilterParams {
     pub level: u8,

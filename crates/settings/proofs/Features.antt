@@ -8,8 +8,8 @@ use native.Mathlib.Omega.{arith}
 use borrow.Author.Tests.{lt-ltb, le-ltb}
 use lib.ListN.{getD}
 use Rattle.enums.specs.SegLvl.{segLvlNumber}
-use Rattle.types.specs.SegmentationParams.{featureIn, featureEnabled, featureActive}
-use Rattle.types.specs.declared.segmentation.SegmentationParams.{SegmentationParams}
+use Rattle.settings.specs.SegmentationParams.{featureIn, featureEnabled, featureActive}
+use Rattle.settings.specs.declared.segmentation.SegmentationParams.{SegmentationParams}
 use Rattle.enums.specs.declared.SegLvl.{SegLvl}
 use Rattle.enums.specs.declared.SegLvl.the-variants.{AltQ, AltL, RefFrame, LvlSkip}
 

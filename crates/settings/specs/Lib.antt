@@ -1,0 +1,4 @@
+pub mod FrameSize
+pub mod LoopFilterParams
+pub mod QuantizationParams
+pub mod SegmentationParams
