@@ -17,7 +17,7 @@ PARTS = [
      "quantizer/* feature/* segment_map/* segment_data/* segmentation/* tiles/*"),
     ("the whole header, record and state", "picture/* inter/* lead/* tail/* slots/* verdict/* frame_header/* frame_state/* header/*"),
     ("a frame, a chunk, the choice", "frame/* index/* chunk_read/* chunk/* choice/*"),
-    ("the segment records", "tables/* clamp/* quant/* grid/* levels/* segments/*"),
+    ("the segment records", "tables/* clamp/* quant/* grid/* levels/* segment_features/* segments/*"),
     ("IVF files and the listing", "ivf/* recording/* text/* arriving/* line/* frame_line/* listing/*"),
 ]
 

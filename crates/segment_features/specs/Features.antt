@@ -4,15 +4,9 @@ use mathlib.Core.List.{List}
 use mathlib.Core.Bool.{Bool, false, _&&_}
 use lib.IntN.{ℤ, pos}
 use Rattle.enums.specs.declared.SegLvl.the-variants.{AltQ, AltL, RefFrame, LvlSkip}
-<<<<<<< HEAD:crates/segment_features/specs/Features.antt
 use Rattle.settings.specs.declared.segmentation.SegmentationParams.{SegmentationParams}
 use Rattle.settings.specs.SegmentationParams.{featureIn}
 use Rattle.segment_features.specs.declared.Features.{Features}
-=======
-use Rattle.settings.specs.declared.segmentation.SegmentationParams.{SegmentationParams}
-use Rattle.settings.specs.SegmentationParams.{featureIn}
-use Rattle.segments.specs.declared.features.Features.{Features}
->>>>>>> 7022aa8e95eeb5f76493ca6e7b6f675d93e98a72:crates/segments/specs/Features.antt
 
 -- by the flags enabled and abs_or_delta_update and the rows of bits and data; as in the source, reference and skip report the enabled bits even where segmentation is off
 unfoldable pub featuresIn : Bool → Bool → List Bool → List ℤ → ℕ → Features

@@ -4,13 +4,8 @@ ghost use mathlib.Core.Bool.{false, _&&_};
 ghost use Prim.Native.Nat.{_+_, _*_};
 ghost use lib.IntN.{pos};
 ghost use Rattle.enums.specs.SegLvl.{segLvlNumber};
-<<<<<<< HEAD:crates/segment_features/src/lib.rt
 ghost use Rattle.settings.specs.SegmentationParams.{featureIn};
 ghost use Rattle.segment_features.specs.Features.{featuresIn};
-=======
-ghost use Rattle.settings.specs.SegmentationParams.{featureIn};
-ghost use Rattle.segments.specs.Features.{featuresIn};
->>>>>>> 7022aa8e95eeb5f76493ca6e7b6f675d93e98a72:crates/segments/src/features.rt
 use enums::SegLvl;
 use settings::SegmentationParams;
 

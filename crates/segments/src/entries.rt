@@ -4,6 +4,7 @@ ghost use Rattle.segments.specs.Entries.{entriesWith};
 ghost use Rattle.segments.specs.Once.{scalesFrom};
 use quant::Scales;
 use segment_features::Features;
+use settings::QuantizationParams;
 use tables::Table;
 
 const MAX_Q_INDEX: u8 = 255;

@@ -11,6 +11,9 @@ use enums::BitDepth;
 use grid::Grid;
 use quant::Scales;
 use segment_features::Features;
+use settings::LoopFilterParams;
+use settings::QuantizationParams;
+use settings::SegmentationParams;
 use tables::Table;
 use types::Header;
 

@@ -1,14 +1,8 @@
 -- `segment_features::enabled_at` meets its contract: the place lies in the row, and past the segments the answer is false.
 use borrow.Author.Needs.{needs}
-<<<<<<< HEAD:crates/segment_features/proofs/enabled_at/Proof.antt
 use Rattle.settings.proofs.Features.{features}
 use Rattle.segment_features.proofs.enabled_at.Statement.{statement}
 use Rattle.segment_features.proofs.enabled_at.Tie as tie
-=======
-use Rattle.settings.proofs.Features.{features}
-use Rattle.segments.proofs.features.enabled_at.Statement.{statement}
-use Rattle.segments.proofs.features.enabled_at.Tie as tie
->>>>>>> 7022aa8e95eeb5f76493ca6e7b6f675d93e98a72:crates/segments/proofs/features/enabled_at/Proof.antt
 
 place-requires : tie.Need-place-requires
 place-requires c κs = search needs

@@ -2,15 +2,9 @@
 use Prim.Native.Nat.{_<_}
 use native.Mathlib.Omega.{arith}
 use borrow.Author.Needs.{needs}
-<<<<<<< HEAD:crates/segment_features/proofs/value_at/Proof.antt
 use Rattle.settings.proofs.Features.{features}
 use Rattle.segment_features.proofs.value_at.Statement.{statement}
 use Rattle.segment_features.proofs.value_at.Tie as tie
-=======
-use Rattle.settings.proofs.Features.{features}
-use Rattle.segments.proofs.features.value_at.Statement.{statement}
-use Rattle.segments.proofs.features.value_at.Tie as tie
->>>>>>> 7022aa8e95eeb5f76493ca6e7b6f675d93e98a72:crates/segments/proofs/features/value_at/Proof.antt
 
 place-requires : tie.Need-place-requires
 place-requires c κs = search needs
