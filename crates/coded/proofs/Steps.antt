@@ -1,4 +1,4 @@
--- What a caller of `read_delta` and of `read_prob` learns, as steps along its own reading.
+-- What a caller of `read_delta` learns, as steps along its own reading.
 -- Assumes nothing.
 use Prim.Native.Nat.{ℕ}
 use mathlib.Core.Path.{_≡_}
@@ -15,33 +15,18 @@ use Rattle.bits.proofs.Steps.{group-step, group-stop}
 use Rattle.coded.specs.declared.Delta.{Delta}
 use Rattle.coded.specs.declared.DeltaRead.{DeltaRead}
 use Rattle.coded.specs.declared.DeltaRead.the-variants.{Value, Short, TooWide}
-use Rattle.coded.specs.declared.ProbRead.{ProbRead}
-use Rattle.coded.specs.declared.ProbRead.the-variants.{Value as Prob, Short as NoProb}
 use Rattle.coded.specs.Delta.{DeltaValues, readDelta, deltaOf, viewDelta, NarrowIs}
-use Rattle.coded.specs.Prob.{ProbValues, readProb, probOf, viewProb, ProbIs}
 use Rattle.coded.proofs.DeltaRead.{the-type}
-use Rattle.coded.proofs.ProbRead.{the-type as the-prob}
 
 no-delta : {x : Got Delta} (r : DeltaRead) → viewDelta r ≡ x → OneOf (1 ∷ 2 ∷ []) (tagOf the-type r) → refused PastEnd ≡ x
 no-delta (Value d c) e h = absurd (⊎-elim (λ k. omega arith) (λ k. omega arith) h)
 no-delta Short e h = e
 no-delta TooWide e h = e
 
-no-prob : {x : Got ℕ} (r : ProbRead) → viewProb r ≡ x → OneOf (1 ∷ []) (tagOf the-prob r) → refused PastEnd ≡ x
-no-prob (Prob n c) e h = absurd (omega (arith, h))
-no-prob NoProb e h = e
-
-module _ {B D : Type 0} (s : List ℕ) (p : ℕ) (f : B → D) (x y : Name) where
-  module _ (z : Name) (n : ℕ) (r : DeltaRead) (k : DeltaValues → ℕ → Read B) (e : NarrowIs s p n r) where
+module _ {B D : Type 0} (s : List ℕ) (p : ℕ) (f : B → D) (x y z : Name) where
+  module _ (n : ℕ) (r : DeltaRead) (k : DeltaValues → ℕ → Read B) (e : NarrowIs s p n r) where
     pub delta-step : (d : Delta) (c : Cursor) (o : Got D) → r ≡ Value d c → ((a : DeltaValues) → d ≡ deltaOf a → o ≡ over f (k a (c .at))) → o ≡ over f (bind (readDelta x y z n s p) k)
     delta-step d c o h t = group-step deltaOf (readDelta x y z n s p) f k d (c .at) o (rw h at (e .1 x y z)) t
 
     pub delta-stop : OneOf (1 ∷ 2 ∷ []) (tagOf the-type r) → refused PastEnd ≡ over f (bind (readDelta x y z n s p) k)
     delta-stop h = group-stop deltaOf (readDelta x y z n s p) f k PastEnd (no-delta r (e .1 x y z) h)
-
-  module _ (r : ProbRead) (k : ProbValues → ℕ → Read B) (e : ProbIs s p r) where
-    pub prob-step : (n : ℕ) (c : Cursor) (o : Got D) → r ≡ Prob n c → ((a : ProbValues) → n ≡ probOf a → o ≡ over f (k a (c .at))) → o ≡ over f (bind (readProb x y s p) k)
-    prob-step n c o h t = group-step probOf (readProb x y s p) f k n (c .at) o (rw h at (e x y)) t
-
-    pub prob-stop : OneOf (1 ∷ []) (tagOf the-prob r) → refused PastEnd ≡ over f (bind (readProb x y s p) k)
-    prob-stop h = group-stop probOf (readProb x y s p) f k PastEnd (no-prob r (e x y) h)

@@ -8,16 +8,10 @@ use lib.ListN.{length, take, drop}
 use Rattle.bits.specs.Reader.{pick}
 use Rattle.types.specs.Header.{defaultHeader}
 use Rattle.types.specs.declared.state.ReaderState.{ReaderState}
-use Rattle.verdict.specs.Verdict.{verdictNumber}
 use Rattle.header.specs.Answer.{parsed}
 use Rattle.header.specs.declared.HeaderRead.{HeaderRead}
 use Rattle.frame.specs.declared.FrameRead.{FrameRead}
-use Rattle.frame.specs.declared.Place.{Place}
-use Rattle.frame.specs.declared.Place.the-variants.{Outside, Inside}
-
-abbrev pub placeNumber : Place → ℕ
-placeNumber Outside = 3
-placeNumber (Inside v) = verdictNumber v
+use Rattle.verdict.specs.declared.Place.the-variants.{Outside, Inside}
 
 abbrev pub outsideFrame : ReaderState → FrameRead
 outsideFrame st = record { place = Outside; header = defaultHeader; state = st }

@@ -1,27 +1,9 @@
 // A single frame of a chunk, at an offset and of a size.
 ghost use mathlib.Core.Path.{_≡_};
-ghost use Rattle.frame.specs.Place.{placeNumber, outsideFrame, framePlaced};
+ghost use Rattle.frame.specs.Place.{outsideFrame, framePlaced};
 use types::Header;
 use types::ReaderState;
-use verdict::Verdict;
-
-// Whether a frame lies in its chunk, and if so what its header says.
-pub enum Place {
-    Outside,
-    Inside(Verdict),
-}
-
-impl Place {
-    // Document 01's number, and 0 for what is accepted.
-    pub fn number(self) -> u8
-        ensures { λ r. ⌜ r ≡ placeNumber self ⌝ }
-    {
-        match self {
-            Place::Outside => 3,
-            Place::Inside(v) => v.number(),
-        }
-    }
-}
+use verdict::Place;
 
 // On a refusal the header is the default one and the state the one before.
 pub struct FrameRead {

@@ -3,8 +3,8 @@ ghost use mathlib.Core.Path.{_≡_};
 ghost use Prim.Native.Nat.{_+_, _^_, _≤_, _<_};
 ghost use lib.ListN.{length};
 ghost use Rattle.coded.specs.Little.{little, readLittle};
-ghost use Rattle.ivf.specs.File.{standsAt, headerOf, fileOf, fileNumber};
-ghost use Rattle.ivf.specs.Record.{recordOf, recordNumber};
+ghost use Rattle.ivf.specs.File.{standsAt, headerOf, fileOf};
+ghost use Rattle.ivf.specs.Record.{recordOf};
 use coded::Little;
 
 pub struct IvfHeader {
@@ -17,19 +17,8 @@ pub struct IvfHeader {
 
 pub enum FileRead {
     Header(IvfHeader),
+    // Document 01's 7.
     Refused,
-}
-
-impl FileRead {
-    // Document 01's number, 0 for a header.
-    pub fn number(self) -> u8
-        ensures { λ r. ⌜ r ≡ fileNumber self ⌝ }
-    {
-        match self {
-            FileRead::Header(_) => 0,
-            FileRead::Refused => 7,
-        }
-    }
 }
 
 // The number of n bytes that are there.
@@ -106,21 +95,8 @@ pub enum RecordRead {
     Record(Record),
     // The file ends here, with its header or a record.
     End,
-    // The record's header or data is cut short.
+    // The record's header or data is cut short: document 01's 8.
     Cut,
-}
-
-impl RecordRead {
-    // Document 01's number, 0 for a record and for the end.
-    pub fn number(self) -> u8
-        ensures { λ r. ⌜ r ≡ recordNumber self ⌝ }
-    {
-        match self {
-            RecordRead::Record(_) => 0,
-            RecordRead::End => 0,
-            RecordRead::Cut => 8,
-        }
-    }
 }
 
 // The record at a place of a file.

@@ -3,26 +3,10 @@
 use mathlib.Core.Path.{_≡_, refl}
 use Rattle.bits.specs.Reader.{Got, got, refused}
 use Rattle.bits.proofs.Exact.{one-of}
-use Rattle.lead.specs.declared.Shot.{Shot}
-use Rattle.lead.specs.declared.ShotRead.{ShotRead}
-use Rattle.lead.specs.declared.ShotRead.the-variants.{Value as Shoots, Refused as ShootsNot}
 use Rattle.lead.specs.declared.Lead.{Lead}
 use Rattle.lead.specs.declared.LeadRead.{LeadRead}
 use Rattle.lead.specs.declared.LeadRead.the-variants.{Value as Leads, Refused as LeadsNot}
-use Rattle.lead.specs.Shot.{viewShot}
 use Rattle.lead.specs.Lead.{viewLead}
-
-asShot : Got Shot → ShotRead
-asShot (got a p) = Shoots a (record { at = p })
-asShot (refused e) = ShootsNot e
-
-shot-back : (r : ShotRead) → asShot (viewShot r) ≡ r
-unfolding asShot
-shot-back (Shoots a c) = refl
-shot-back (ShootsNot e) = refl
-
-pub one-shot : (r q : ShotRead) (x : Got Shot) → viewShot r ≡ x → viewShot q ≡ x → r ≡ q
-one-shot = one-of viewShot asShot shot-back
 
 asLead : Got Lead → LeadRead
 asLead (got a p) = Leads a (record { at = p })

@@ -1,4 +1,4 @@
--- What a caller of `parse_shot` and of `parse_lead` learns, as steps along its own reading.
+-- What a caller of `parse_shot` learns, as steps along its own reading.
 -- Assumes nothing.
 use Prim.Native.Nat.{ℕ}
 use mathlib.Core.Path.{_≡_}
@@ -16,11 +16,8 @@ use Rattle.color.specs.declared.Color.{Color}
 use Rattle.lead.specs.declared.Shot.{Shot}
 use Rattle.lead.specs.declared.ShotRead.{ShotRead}
 use Rattle.lead.specs.declared.ShotRead.the-variants.{Value as Shoots, Refused as ShootsNot}
-use Rattle.lead.specs.declared.Lead.{Lead}
-use Rattle.lead.specs.declared.LeadRead.{LeadRead}
-use Rattle.lead.specs.declared.LeadRead.the-variants.{Value as Leads, Refused as LeadsNot}
 use Rattle.lead.specs.Shot.{ShotValues, readShot, shotOf, viewShot}
-use Rattle.lead.specs.Lead.{LeadValues, isKey, isShown, isResilient, readLead, leadOf, viewLead}
+use Rattle.lead.specs.Lead.{isKey, isShown, isResilient, leadOf}
 
 -- the flag that a record of traits has is the values' one
 pub resilient-as : (t : Traits) (a : TraitsValues) → t ≡ traitsOf a → t .«error_resilient_mode» ≡ isResilient a
@@ -40,13 +37,6 @@ module _ {B D : Type 0} (s : List ℕ) (p : ℕ) (f : B → D) (profile : ℕ) (
 
     pub shot-stop : (u : Refusal) → r ≡ ShootsNot u → refused u ≡ over f (bind (readShot profile (isKey v) (isShown v) (isResilient v) s p) k)
     shot-stop u h = group-stop (shotOf profile (isKey v) color slots) (readShot profile (isKey v) (isShown v) (isResilient v) s p) f k u (rw h at said)
-
-  module _ (r : LeadRead) (k : LeadValues → ℕ → Read B) (e : viewLead r ≡ over (leadOf profile color slots) (readLead profile s p)) where
-    pub lead-step : (x : Lead) (c : Cursor) (o : Got D) → r ≡ Leads x c → ((a : LeadValues) → x ≡ leadOf profile color slots a → o ≡ over f (k a (c .at))) → o ≡ over f (bind (readLead profile s p) k)
-    lead-step x c o h y = group-step (leadOf profile color slots) (readLead profile s p) f k x (c .at) o (rw h at e) y
-
-    pub lead-stop : (u : Refusal) → r ≡ LeadsNot u → refused u ≡ over f (bind (readLead profile s p) k)
-    lead-stop u h = group-stop (leadOf profile color slots) (readLead profile s p) f k u (rw h at e)
 
 -- the record that the code makes
 pub lead-read : (profile : ℕ) (color : Color) (slots : List FrameSize) (p : ℕ) (t : Traits) (h : Shot) (x : Context) (a : TraitsValues) (b : ShotValues) (d : ContextValues)

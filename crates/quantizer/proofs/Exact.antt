@@ -2,13 +2,12 @@
 -- Assumes nothing.
 use Prim.Native.Nat.{ℕ}
 use mathlib.Core.Path.{_≡_, sym, _∙_}
-use mathlib.Core.Bool.{Bool}
 use mathlib.Core.List.{List}
 use Rattle.bits.specs.Reader.{Got, got, refused, over}
 use Rattle.settings.specs.declared.quantization.QuantizationParams.{QuantizationParams}
 use Rattle.quantizer.specs.declared.QuantizerRead.{QuantizerRead}
 use Rattle.quantizer.specs.declared.QuantizerRead.the-variants.{Value as Quantizer, Short as NoQuantizer}
-use Rattle.quantizer.specs.Quantizer.{readQuantizer, quantizerOf, viewQuantizer, lossless}
+use Rattle.quantizer.specs.Quantizer.{readQuantizer, quantizerOf, viewQuantizer}
 
 -- the answer that an answer of the definition is
 asQuantizer : Got QuantizationParams → QuantizerRead
@@ -22,6 +21,3 @@ quantizer-exact NoQuantizer g h = rw (← h)
 
 pub one-quantizer : (s : List ℕ) (p : ℕ) (r q : QuantizerRead) → viewQuantizer r ≡ over quantizerOf (readQuantizer s p) → viewQuantizer q ≡ over quantizerOf (readQuantizer s p) → r ≡ q
 one-quantizer s p r q h k = quantizer-exact r _ h ∙ sym (quantizer-exact q _ k)
-
-pub one-lossless : (q : QuantizationParams) (a b : Bool) → a ≡ lossless q → b ≡ lossless q → a ≡ b
-one-lossless q a b h k = h ∙ sym k

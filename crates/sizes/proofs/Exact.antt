@@ -3,35 +3,15 @@
 use Prim.Native.Nat.{ℕ}
 use mathlib.Core.Path.{_≡_, sym, _∙_}
 use mathlib.Core.List.{List}
-use Rattle.bits.specs.Refusal.{Name, the}
 use Rattle.bits.specs.Reader.{Got, got, refused, over}
 use Rattle.settings.specs.declared.size.FrameSize.{FrameSize}
-use Rattle.sizes.specs.declared.SizeRead.{SizeRead}
-use Rattle.sizes.specs.declared.SizeRead.the-variants.{Value, Short}
 use Rattle.sizes.specs.declared.Sizes.{Sizes}
 use Rattle.sizes.specs.declared.SizesRead.{SizesRead}
 use Rattle.sizes.specs.declared.SizesRead.the-variants.{Value as Both, Short as NoSizes}
-use Rattle.sizes.specs.Size.{viewSize, SizeIs}
 use Rattle.sizes.specs.Render.{readRender}
 use Rattle.sizes.specs.Sizes.{readSizes, withRender, sizesOf, viewSizes}
 
--- a name: the promise holds under any
-x : Name
-x = the ""
-
 -- the answer that an answer of the definition is
-asSize : Got FrameSize → SizeRead
-asSize (got v p) = Value v (record { at = p })
-asSize (refused e) = Short
-
-exact-size : (r : SizeRead) (g : Got FrameSize) → viewSize r ≡ g → r ≡ asSize g
-unfolding asSize
-exact-size (Value v c) g h = rw (← h)
-exact-size Short g h = rw (← h)
-
-pub one-size : (s : List ℕ) (p : ℕ) (r q : SizeRead) → SizeIs s p r → SizeIs s p q → r ≡ q
-one-size s p r q h k = exact-size r _ (h x x) ∙ sym (exact-size q _ (k x x))
-
 pub asSizes : Got Sizes → SizesRead
 asSizes (got v p) = Both v (record { at = p })
 asSizes (refused e) = NoSizes

@@ -1,31 +1,15 @@
 -- Any two answers that meet one of these promises are one.
 -- Assumes nothing.
-use Prim.Native.Nat.{ℕ}
 use mathlib.Core.Path.{_≡_, refl}
 use Rattle.bits.specs.Reader.{Got, got, refused}
 use Rattle.bits.proofs.Exact.{one-of}
-use Rattle.start.specs.declared.ProfileRead.{ProfileRead}
-use Rattle.start.specs.declared.ProfileRead.the-variants.{Value as Profile, Refused as NoProfile}
 use Rattle.start.specs.declared.Opening.{Opening}
 use Rattle.start.specs.declared.OpeningRead.{OpeningRead}
 use Rattle.start.specs.declared.OpeningRead.the-variants.{Value as Opens, Refused as NotOpen}
 use Rattle.start.specs.declared.SyncRead.{SyncRead}
 use Rattle.start.specs.declared.SyncRead.the-variants.{Value as Synced, Refused as Unsynced}
-use Rattle.start.specs.Profile.{viewProfile}
 use Rattle.start.specs.Opening.{viewOpening}
 use Rattle.start.specs.Sync.{viewSync}
-
-asProfile : Got ℕ → ProfileRead
-asProfile (got a p) = Profile a (record { at = p })
-asProfile (refused e) = NoProfile e
-
-profile-back : (r : ProfileRead) → asProfile (viewProfile r) ≡ r
-unfolding asProfile
-profile-back (Profile a c) = refl
-profile-back (NoProfile e) = refl
-
-pub one-profile : (r q : ProfileRead) (x : Got ℕ) → viewProfile r ≡ x → viewProfile q ≡ x → r ≡ q
-one-profile = one-of viewProfile asProfile profile-back
 
 asOpening : Got Opening → OpeningRead
 asOpening (got a p) = Opens a (record { at = p })

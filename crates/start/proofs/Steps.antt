@@ -9,13 +9,9 @@ use Rattle.bits.specs.Reader.{Got, Read, refused, bind, over}
 use Rattle.bits.proofs.Steps.{group-step, group-stop}
 use Rattle.start.specs.declared.ProfileRead.{ProfileRead}
 use Rattle.start.specs.declared.ProfileRead.the-variants.{Value as Profile, Refused as NoProfile}
-use Rattle.start.specs.declared.Opening.{Opening}
-use Rattle.start.specs.declared.OpeningRead.{OpeningRead}
-use Rattle.start.specs.declared.OpeningRead.the-variants.{Value as Opens, Refused as NotOpen}
 use Rattle.start.specs.declared.SyncRead.{SyncRead}
 use Rattle.start.specs.declared.SyncRead.the-variants.{Value as Synced, Refused as Unsynced}
 use Rattle.start.specs.Profile.{ProfileValues, readProfile, profileNumber, viewProfile}
-use Rattle.start.specs.Opening.{OpeningValues, readOpening, openingOf, viewOpening}
 use Rattle.start.specs.Sync.{readSync, syncOf, viewSync}
 
 module _ {B D : Type 0} (s : List ℕ) (p : ℕ) (f : B → D) where
@@ -25,13 +21,6 @@ module _ {B D : Type 0} (s : List ℕ) (p : ℕ) (f : B → D) where
 
     pub profile-stop : (u : Refusal) → r ≡ NoProfile u → refused u ≡ over f (bind (readProfile s p) k)
     profile-stop u h = group-stop profileNumber (readProfile s p) f k u (rw h at e)
-
-  module _ (r : OpeningRead) (k : OpeningValues → ℕ → Read B) (e : viewOpening r ≡ over openingOf (readOpening s p)) where
-    pub opening-step : (v : Opening) (c : Cursor) (o : Got D) → r ≡ Opens v c → ((a : OpeningValues) → v ≡ openingOf a → o ≡ over f (k a (c .at))) → o ≡ over f (bind (readOpening s p) k)
-    opening-step v c o h t = group-step openingOf (readOpening s p) f k v (c .at) o (rw h at e) t
-
-    pub opening-stop : (u : Refusal) → r ≡ NotOpen u → refused u ≡ over f (bind (readOpening s p) k)
-    opening-stop u h = group-stop openingOf (readOpening s p) f k u (rw h at e)
 
   module _ (r : SyncRead) (k : ℕ → ℕ → Read B) (e : viewSync r ≡ over syncOf (readSync s p)) where
     pub sync-step : (c : Cursor) (o : Got D) → r ≡ Synced c → ((a : ℕ) → o ≡ over f (k a (c .at))) → o ≡ over f (bind (readSync s p) k)

@@ -7,17 +7,7 @@ use Rattle.bits.specs.Reader.{Got, got, refused, over}
 use Rattle.tiles.specs.declared.Tiles.{Tiles}
 use Rattle.tiles.specs.declared.TilesRead.{TilesRead}
 use Rattle.tiles.specs.declared.TilesRead.the-variants.{Value, Short}
-use Rattle.tiles.specs.Limits.{superblocks, least, most}
 use Rattle.tiles.specs.Tiles.{readTiles, tilesOf, viewTiles}
-
-pub one-superblocks : (width r q : ℕ) → r ≡ superblocks width → q ≡ superblocks width → r ≡ q
-one-superblocks width r q h k = h ∙ sym k
-
-pub one-least : (w r q : ℕ) → r ≡ least w → q ≡ least w → r ≡ q
-one-least w r q h k = h ∙ sym k
-
-pub one-most : (w r q : ℕ) → r ≡ most w → q ≡ most w → r ≡ q
-one-most w r q h k = h ∙ sym k
 
 -- the answer that an answer of the definition is
 asTiles : Got Tiles → TilesRead

@@ -1,6 +1,6 @@
-// What is said of a header: accepted, or a refusal.
+// What is said of a header, accepted or a refusal, and of a frame by where it lies.
 ghost use mathlib.Core.Path.{_≡_};
-ghost use Rattle.verdict.specs.Verdict.{verdictNumber};
+ghost use Rattle.verdict.specs.Verdict.{verdictNumber, placeNumber};
 use bits::Refusal;
 
 pub enum Verdict {
@@ -16,6 +16,24 @@ impl Verdict {
         match self {
             Verdict::Accepted => 0,
             Verdict::Refused(e) => e.number(),
+        }
+    }
+}
+
+// Whether a frame lies in its chunk, and if so what its header says.
+pub enum Place {
+    Outside,
+    Inside(Verdict),
+}
+
+impl Place {
+    // Document 01's number, and 0 for what is accepted.
+    pub fn number(self) -> u8
+        ensures { λ r. ⌜ r ≡ placeNumber self ⌝ }
+    {
+        match self {
+            Place::Outside => 3,
+            Place::Inside(v) => v.number(),
         }
     }
 }
