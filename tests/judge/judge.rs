@@ -58,9 +58,10 @@ mod stub {
     }
 }
 
+use bitstream_utils::IvfIterator;
 use codec::vp9::parser::{
-    Frame, FrameType, Header, LoopFilterParams, Parser, QuantizationParams, Segmentation, SegmentationParams,
-    MAX_SEGMENTS,
+    BitDepth, ColorRange, ColorSpace, Frame, FrameType, Header, InterpolationFilter, LoopFilterParams, Parser, Profile,
+    QuantizationParams, ReferenceFrameType, Segmentation, SegmentationParams, MAX_SEGMENTS,
 };
 use std::fmt;
 use std::hint::black_box;
@@ -131,6 +132,8 @@ struct Options {
     trace: bool,
     list: bool,
     digest: bool,
+    packets: bool,
+    numbers: bool,
     records: bool,
     state: bool,
     restore: bool,
@@ -138,9 +141,9 @@ struct Options {
 }
 
 const USAGE: &str = "usage: judge [--brief | --quiet-state] (--hex | --ivf) [FILE]
-       judge (--trace | --list | --digest [--restore]) [FILE]
-FILE is - or left out for standard input; --trace and --list take an IVF file,
---digest the records of tests/reader/DIGEST.md";
+       judge (--trace | --list | --packets | --numbers | --digest [--restore]) [FILE]
+FILE is - or left out for standard input; --trace, --list and --packets take an IVF
+file, --numbers a number a line, --digest the records of tests/reader/DIGEST.md";
 
 fn read_options() -> Option<Options> {
     let mut options = Options {
@@ -148,6 +151,8 @@ fn read_options() -> Option<Options> {
         trace: false,
         list: false,
         digest: false,
+        packets: false,
+        numbers: false,
         records: true,
         state: true,
         restore: false,
@@ -163,6 +168,8 @@ fn read_options() -> Option<Options> {
             }
             "--list" => options.list = true,
             "--digest" => options.digest = true,
+            "--packets" => options.packets = true,
+            "--numbers" => options.numbers = true,
             "--restore" => options.restore = true,
             "--brief" => {
                 options.records = false;
@@ -765,8 +772,48 @@ fn run_hex(options: &Options, out: &mut impl Write) -> io::Result<()> {
     }
 }
 
+/// Prints where the data of each record starts and ends, as the crate's own iterator has it. That panics on a cut record.
+fn run_packets(options: &Options, out: &mut impl Write) -> io::Result<()> {
+    let file = read_all(&options.file)?;
+    for packet in IvfIterator::new(&file) {
+        let start = packet.as_ptr() as usize - file.as_ptr() as usize;
+        writeln!(out, "{} {}", start, start + packet.len())?;
+    }
+    Ok(())
+}
+
+/// The number of the variant that `try_from` gives, or - for an error.
+fn tried<T, E>(answer: Result<T, E>, number: impl Fn(T) -> u32) -> String {
+    answer.map_or(String::from("-"), |variant| number(variant).to_string())
+}
+
+/// Prints what each `try_from` answers to the number of each line.
+fn run_numbers(options: &Options, out: &mut impl Write) -> io::Result<()> {
+    for line in open(options)?.lines() {
+        let line = line?;
+        let n: u32 = line.parse().map_err(|_| io::Error::new(io::ErrorKind::InvalidData, line))?;
+        let answers = [
+            tried(InterpolationFilter::try_from(n), |v| v as u32),
+            tried(ReferenceFrameType::try_from(n), |v| v as u32),
+            tried(FrameType::try_from(n as u8), |v| v as u32),
+            tried(Profile::try_from(n), |v| v as u32),
+            tried(BitDepth::try_from(n), |v| v as u32),
+            tried(ColorSpace::try_from(n), |v| v as u32),
+            tried(ColorRange::try_from(n), |v| v as u32),
+        ];
+        writeln!(out, "{}", answers.join(" "))?;
+    }
+    Ok(())
+}
+
 fn run(options: &Options) -> io::Result<()> {
     let mut out = BufWriter::with_capacity(1 << 16, io::stdout().lock());
+    if options.packets {
+        return run_packets(options, &mut out).and_then(|()| out.flush());
+    }
+    if options.numbers {
+        return run_numbers(options, &mut out).and_then(|()| out.flush());
+    }
     if options.list {
         return run_list(options, &mut out).and_then(|()| out.flush());
     }

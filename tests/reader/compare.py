@@ -15,6 +15,7 @@ import argparse
 import collections
 import itertools
 import os
+import random
 import re
 import subprocess
 import sys
@@ -66,8 +67,9 @@ class Question:
     """A chunk put to the program, with the model's answer. `again`: put before, and now only
     to reach a state."""
 
-    def __init__(self, group, where, chunk, before, tables):
+    def __init__(self, group, where, chunk, before, tables, record=None):
         self.group, self.where, self.chunk, self.before = group, where, chunk, before
+        self.record = record or program.record(chunk)
         self.fresh = self.again = False
         self.frames = self.refusal = 0
         try:
@@ -104,8 +106,8 @@ class Plan:
         self.tables, self.questions = tables, []
         self.nothing = Memory(expect.State(), expect.default_segments())
 
-    def ask(self, group, where, chunk, before):
-        question = Question(group, where, chunk, before, self.tables)
+    def ask(self, group, where, chunk, before, record=None):
+        question = Question(group, where, chunk, before, self.tables, record)
         self.questions.append(question)
         return question
 
@@ -118,6 +120,18 @@ class Plan:
         if asked:
             asked[0].fresh = True
         return asked
+
+    def single_frames(self, name, chunks, dice, refused):
+        """Each frame of the chunks, asked for by its offset and size, from a fresh state on; `refused`: after some that are refused."""
+        group = "single frames, refused ones between" if refused else "single frames"
+        memory, fresh = self.nothing, True
+        for frame in (chunk[at:at + size] for chunk in chunks for at, size in places(chunk)):
+            lent, at = inputs.lent(frame, dice)
+            outside = inputs.frame_places(lent, at, len(frame), dice) if refused else ()
+            for offset, size in [*outside, (at, len(frame))]:
+                record = program.frame_record(lent, offset, size)
+                question = self.ask(group, f"{name} at {offset} of {size}", alone(lent, offset, size), memory, record)
+                question.fresh, fresh, memory = fresh, False, question.after
 
     def variants(self, group, name, before, chunks):
         """Each of the chunks in the state that the chunks `before` leave. A refused one leaves
@@ -145,6 +159,10 @@ def make_plan(tables, given):
         plan.series("hand-made", f"series {number}", chunks)
     for number, chunks in enumerate(inputs.bent_series(hand_made, given.bent)):
         plan.series("hand-made, bent", f"bent series {number}", chunks)
+    dice = random.Random(11)
+    for refused in (False, True):
+        for name, chunks in [*inputs.recordings(), *((f"series {number}", chunks) for number, chunks in enumerate(hand_made))]:
+            plan.single_frames(name, chunks, dice, refused)
     for group, chosen in (("examples", inputs.EXAMPLES), ("real", inputs.real_chunks())):
         for name, before, chunk in chosen:
             put = [("", chunk), *inputs.cuts(chunk), *inputs.flips(chunk, places(chunk))]
@@ -152,6 +170,13 @@ def make_plan(tables, given):
     plan.variants("one and two bytes", "chunk", [],
                   itertools.islice(inputs.short_chunks(), 0, None, given.every))
     return plan
+
+
+def alone(lent, offset, size):
+    """A chunk that says the same as a single frame: with an index of that frame alone, or, where it lies outside, refused with 3."""
+    if offset + size > len(lent):
+        return bytes.fromhex("C001C0")
+    return lent[offset:offset + size] + b"\xD8" + size.to_bytes(4, "little") + b"\xD8"
 
 
 def places(chunk):
@@ -168,7 +193,7 @@ def write_inputs(plan, for_program, for_judge):
         if question.fresh:
             for_program.write(program.FRESH)
             for_judge.write(b"fresh\n")
-        for_program.write(program.record(question.chunk))
+        for_program.write(question.record)
         for_judge.write(question.chunk.hex().encode() + b"\n")
     for file in (for_program, for_judge):
         file.seek(0)

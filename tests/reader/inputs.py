@@ -48,10 +48,13 @@ def ivf_chunks(path):
     return chunks
 
 
+def recording_paths():
+    return sorted(glob.glob(os.path.join(RECORDINGS, "*.ivf")))
+
+
 def recordings():
     """Names and chunks of all recordings."""
-    return [(os.path.basename(path), ivf_chunks(path))
-            for path in sorted(glob.glob(os.path.join(RECORDINGS, "*.ivf")))]
+    return [(os.path.basename(path), ivf_chunks(path)) for path in recording_paths()]
 
 
 def real_chunks():
@@ -110,6 +113,20 @@ def flips(chunk, places):
             data = bytearray(chunk)
             data[place] ^= 128 >> bit
             yield f"byte {place} bit {bit}", bytes(data)
+
+
+def lent(frame, dice):
+    """A chunk that has the frame between other bytes, and where it starts."""
+    before, behind = (bytes(dice.choices(range(256), k=dice.randrange(20))) for _ in range(2))
+    return before + frame + behind, len(before)
+
+
+def frame_places(chunk, at, size, dice):
+    """Offsets and sizes by which a frame is asked for: one that ends past the chunk, one that starts past it, and the frame cut short."""
+    far = 2 ** 64 - 1
+    yield at, dice.choice((len(chunk) - at + 1, far - at, far))
+    yield dice.choice((len(chunk) + 1, far)), dice.choice((0, 1, far))
+    yield at, dice.randrange(min(size, 24) or 1)
 
 
 def short_chunks():

@@ -29,6 +29,11 @@ def record(chunk):
     return b"\1" + sized(chunk)
 
 
+def frame_record(chunk, offset, size):
+    """A single frame of a chunk as the program trace reads it."""
+    return b"\3" + struct.pack("<QQ", offset, size) + sized(chunk)
+
+
 def counted(kind, count, chunk):
     """A chunk for a benchmark, as DIGEST.md has it: kind 4, so many parses; kind 5, so many segment steps."""
     return bytes([kind]) + struct.pack("<I", count) + sized(chunk)

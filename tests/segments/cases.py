@@ -114,6 +114,11 @@ def header_bytes(h):
             + b"".join(short(d) for row in seg.feature_data for d in row))
 
 
+def scales_bytes(header):
+    """A header of which the scales are asked for."""
+    return b"\3" + header_bytes(header)
+
+
 def case_bytes(old, header, _):
     if old is None:
         return b"\0" + header_bytes(header)

@@ -7,7 +7,8 @@ PROGRAM is the proved program read_segments (default target/bin/read_segments, m
 `rt check read_segments`), ORIGINAL our driver over the Rust (default
 target/segments/original, made by tests/segments/build). Both get the same cases and
 must print the same records, and those must be the model's (tests/handmade/expect.py,
-from document 01's "Eight segment records"). The same run makes the same cases.
+from document 01's "Eight segment records"). Then PROGRAM is asked for the four scales of each segment
+one by one (get_dc_quant, get_ac_quant), which must be the Rust's. The same run makes the same cases.
 --write FILE keeps the cases.
 
 Exit 0 if all agrees, 1 on a difference."""
@@ -23,7 +24,7 @@ HERE = os.path.dirname(os.path.abspath(__file__))
 ROOT = os.path.abspath(os.path.join(HERE, "..", ".."))
 sys.path.insert(0, os.path.join(HERE, "..", "reader"))
 
-from cases import Cases, case_bytes, expect
+from cases import Cases, case_bytes, expect, scales_bytes
 from program import built, command, kit_tools
 
 SEED = 5
@@ -46,6 +47,11 @@ def model_lines(cases, tables):
         segments = expect.segment_step(segments if old is None else old, header, tables)
         lines += map(line, segments)
     return lines
+
+
+def scales(record):
+    """Of a record's line, the four scales."""
+    return " " + " ".join(record.split()[8:12])
 
 
 def main():
@@ -77,10 +83,17 @@ def main():
                 if differences <= given.show:
                     print(f"case {at // 8} segment {at % 8}: read_segments{a}, {judge}{b}")
 
+    asked = run(command(given.program, kit_tools()), b"".join(scales_bytes(header) for _, header, _ in cases))
+    for at, (a, b) in enumerate(zip(asked, map(scales, answers["the Rust"]), strict=True)):
+        if a != b:
+            differences += 1
+            if differences <= given.show:
+                print(f"case {at // 8} segment {at % 8}: scales{a}, the Rust{b}")
+
     own = sum(old is not None for old, _, _ in cases)
     spelled = sum(spelled for _, _, spelled in cases)
     print(f"segments: {len(cases)} settings, {spelled} that a header can spell and {len(cases) - spelled} beyond, {len(cases) - own} on records "
-          f"carried along and {own} on random ones; {len(ours)} records, each compared with the Rust and the model: {differences} differences")
+          f"carried along and {own} on random ones; {len(ours)} records, each compared with the Rust and the model, and {4 * len(asked)} scales asked for by themselves: {differences} differences")
     return 1 if differences else 0
 
 

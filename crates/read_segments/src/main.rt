@@ -1,6 +1,6 @@
 // Reads cases from standard input and prints the eight segment records after each, a line for each record.
 // A case starts with a byte: 0, the old records are those that the last case left; 1, eight old records follow; 2, the last case's
-// records stay, so that the cost of a step can be told. Then come the fields of a header that the records follow from. A flag is a byte, 1 for set. A number with a sign is a byte, 0 for plus, 1 for minus, 2 for the
+// records stay, so that the cost of a step can be told; 3, they stay and the four scales of each segment are printed instead. Then come the fields of a header that the records follow from. A flag is a byte, 1 for set. A number with a sign is a byte, 0 for plus, 1 for minus, 2 for the
 // least number of its type, and its magnitude, high byte first.
 use enums::BitDepth;
 use enums::ColorRange;
@@ -277,11 +277,33 @@ fn answered(old: [Segmentation; 8], step: bool) -> After {
     }
 }
 
+// The four scales, each asked for by itself, in a record's order.
+fn print_scales(h: Header, segment_id: u8) {
+    let depth = h.bit_depth;
+    print_short(quant::get_ac_quant(depth, h.quant, h.seg, segment_id, true));
+    print_short(quant::get_dc_quant(depth, h.quant, h.seg, segment_id, true));
+    print_short(quant::get_ac_quant(depth, h.quant, h.seg, segment_id, false));
+    print_short(quant::get_dc_quant(depth, h.quant, h.seg, segment_id, false));
+    text(b"\n");
+}
+
+fn scaled(last: [Segmentation; 8]) -> After {
+    let h = header();
+    for i in 0..8u8 {
+        print_scales(h, i);
+    }
+    After {
+        segments: last,
+        more: true,
+    }
+}
+
 fn turn(last: [Segmentation; 8]) -> After {
     match byte() {
         0 => answered(last, true),
         1 => answered(old_segments(), true),
         2 => answered(last, false),
+        3 => scaled(last),
         _ => After {
             segments: last,
             more: false,

@@ -1,6 +1,7 @@
 // Prints the long form of the listing: of an IVF file, for `bin/list --trace`, or of series of chunks with the state after each, for tests/reader.
 // Standard input: a byte 2 and an IVF file. Or records: a byte 0 starts from a fresh state; a byte 1, four bytes of length, low byte first, and as
-// many bytes are a chunk.
+// many bytes are a chunk; a byte 3, eight bytes of offset, eight of size, and a chunk's length and bytes are a single frame of it, which is printed
+// as the only frame of a chunk.
 ghost use Prim.Native.Nat.{_≤_};
 ghost use lib.ListN.{length};
 use chunk_read::Answer;
@@ -437,16 +438,28 @@ fn print_frame(at: usize, h: Header) -> usize {
     print_header(at, h)
 }
 
-// The i-th frame with the segment records after it, which are handed on. There are never more than eight.
-fn list_frame(chunk: u64, i: usize, read: ChunkRead, old: [Segmentation; 8]) -> [Segmentation; 8] {
+// The i-th frame with the segment records after it, which are handed on.
+fn list_frame(
+    chunk: u64,
+    i: usize,
+    at: usize,
+    size: usize,
+    h: Header,
+    old: [Segmentation; 8],
+) -> [Segmentation; 8] {
+    let segments = Segmentation::update_segmentation(old, h);
+    let next = print_place(chunk, i, kind(h), at, size);
+    print_segments(print_frame(next, h), segments);
+    segments
+}
+
+// There are never more than eight.
+fn list_nth(chunk: u64, i: usize, read: ChunkRead, old: [Segmentation; 8]) -> [Segmentation; 8] {
     if i >= 8 {
         return old;
     }
     let h = read.headers[i];
-    let segments = Segmentation::update_segmentation(old, h);
-    let at = print_place(chunk, i, kind(h), read.at[i], read.size[i]);
-    print_segments(print_frame(at, h), segments);
-    segments
+    list_frame(chunk, i, read.at[i], read.size[i], h, old)
 }
 
 fn print_frames(
@@ -457,7 +470,7 @@ fn print_frames(
 ) -> [Segmentation; 8] {
     let mut segments = old;
     for i in 0..frames {
-        let after = list_frame(chunk, i, read, segments);
+        let after = list_nth(chunk, i, read, segments);
         segments = after;
     }
     segments
@@ -476,6 +489,21 @@ fn print_answer(chunk: u64, read: ChunkRead, segments: [Segmentation; 8]) -> [Se
         return segments;
     };
     print_frames(chunk, n, read, segments)
+}
+
+fn print_single(
+    chunk: u64,
+    number: u8,
+    size: usize,
+    h: Header,
+    segments: [Segmentation; 8],
+) -> [Segmentation; 8] {
+    if number == 0 {
+        list_frame(chunk, 0, 0, size, h, segments)
+    } else {
+        print_refusal(chunk, number, 0);
+        segments
+    }
 }
 
 fn print_columns() {
@@ -514,8 +542,8 @@ fn one_more(n: u64) -> u64 {
     if n < u64::MAX { n + 1 } else { n }
 }
 
-fn refused_after(n: u64, answer: Answer) -> u64 {
-    if answer.number() == 0 { n } else { one_more(n) }
+fn refused_after(n: u64, number: u8) -> u64 {
+    if number == 0 { n } else { one_more(n) }
 }
 
 fn answer_chunk(s: &[u8], series: Series) -> Series {
@@ -530,7 +558,25 @@ fn answer_chunk(s: &[u8], series: Series) -> Series {
     Series {
         file: series.file,
         chunk: one_more(series.chunk),
-        refused: refused_after(series.refused, answer),
+        refused: refused_after(series.refused, answer.number()),
+        state,
+        segments,
+    }
+}
+
+fn answer_frame(s: &[u8], offset: usize, size: usize, series: Series) -> Series {
+    let read = frame::parse_frame(s, offset, size, series.state);
+    let place = read.place;
+    let header = read.header;
+    let state = read.state;
+    let old = series.segments;
+    let number = place.number();
+    let segments = print_single(series.chunk, number, size, header, old);
+    print_state(state);
+    Series {
+        file: series.file,
+        chunk: one_more(series.chunk),
+        refused: refused_after(series.refused, number),
         state,
         segments,
     }
@@ -554,6 +600,8 @@ fn pass_chunk(series: Series) -> Series {
 enum Record {
     Fresh,
     Chunk(usize),
+    // A single frame of such a chunk, at an offset and of a size.
+    Frame(usize, usize, usize),
     End,
     // An IVF file begins.
     File,
@@ -586,6 +634,25 @@ fn read_chunk(buf: &mut [u8]) -> Record {
         Record::Chunk(n as usize)
     } else {
         Record::End
+    }
+}
+
+fn read_frame(buf: &mut [u8]) -> Record {
+    let mut place = [0u8; 16];
+    let got = io::read_full(STDIN_FILENO, &mut place);
+    if got < 16 {
+        return Record::End;
+    }
+    let Little::Value(offset) = coded::read_little(&place, 0, 8) else {
+        return Record::End;
+    };
+    let Little::Value(size) = coded::read_little(&place, 8, 8) else {
+        return Record::End;
+    };
+    let chunk = read_chunk(buf);
+    match chunk {
+        Record::Chunk(n) => Record::Frame(n, offset as usize, size as usize),
+        _ => Record::End,
     }
 }
 
@@ -643,14 +710,15 @@ fn read_file_record(buf: &mut [u8]) -> Record {
     read_file_data(buf, n)
 }
 
-// Where the input ends, the kind stays 3.
+// Where the input ends, the kind stays 4.
 fn read_series_record(buf: &mut [u8]) -> Record {
-    let mut kind = [3u8; 1];
+    let mut kind = [4u8; 1];
     io::read_full(STDIN_FILENO, &mut kind);
     match kind[0] {
         0 => Record::Fresh,
         1 => read_chunk(buf),
         2 => read_file_header(),
+        3 => read_frame(buf),
         _ => Record::End,
     }
 }
@@ -680,6 +748,7 @@ fn open_file() -> Series {
 fn after_record(record: Record, buf: &[u8], series: Series) -> Series {
     match record {
         Record::Chunk(n) => answer_chunk(front(buf, n), series),
+        Record::Frame(n, offset, size) => answer_frame(front(buf, n), offset, size, series),
         Record::Long => pass_chunk(series),
         Record::File => open_file(),
         _ => fresh(false),

@@ -13,8 +13,8 @@ abbrev μ-loop : tie.MeasureT-loop
 loop-holds : tie.Need-loop-holds Inv-loop μ-loop
 loop-holds c = search needs
 
-list-frame-requires : tie.Need-list-frame-requires Inv-loop μ-loop
-list-frame-requires c κs = search needs
+list-nth-requires : tie.Need-list-nth-requires Inv-loop μ-loop
+list-nth-requires c κs = search needs
 
 add-i : tie.Need-add-i Inv-loop μ-loop
 add-i c = search needs
@@ -31,4 +31,4 @@ returns c = search needs
 pub print-frames-spec : {M : Type 1} → statement M
 print-frames-spec =
     tie.close
-    (tie.spec Inv-loop μ-loop loop-holds list-frame-requires add-i loop-less loop-again returns)
+    (tie.spec Inv-loop μ-loop loop-holds list-nth-requires add-i loop-less loop-again returns)

@@ -1,0 +1,178 @@
+#!/usr/bin/env python3
+"""Compares the calls that no other program makes with the Rust and with document 01: the enums' try_from, choose_picture and read_record.
+
+Usage: compare.py [--program PROGRAM] [--judge JUDGE] [--write DIR]
+
+PROGRAM is the proved program calls (default target/bin/calls, made by `rt check calls`); crates/calls/src/main.rt
+says what it reads. JUDGE is our driver over the Rust (tests/judge), which has try_from and the records of a
+whole IVF file; without it those are held to document 01 alone. The same run makes the same calls.
+--write DIR makes crates/calls' stdin and stdout, a few of the calls with document 01's answers.
+
+Exit 0 if all agrees, 1 on a difference."""
+
+import argparse
+import os
+import random
+import struct
+import subprocess
+import sys
+
+sys.dont_write_bytecode = True
+
+ROOT = os.path.abspath(os.path.join(os.path.dirname(os.path.abspath(__file__)), "..", ".."))
+sys.path.insert(0, os.path.join(ROOT, "tests", "reader"))
+
+import inputs
+import program
+
+# The program's buffer.
+LONGEST = 65536
+LARGE = (2 ** 31, 2 ** 63, 2 ** 64 - 1)
+
+
+class Call:
+    """What the program is asked, and document 01's answer."""
+
+    def __init__(self, asked, answer):
+        self.asked, self.answer = asked, answer
+
+    def record(self):
+        return struct.pack("<I", len(self.asked)) + self.asked
+
+
+# The enums: interpolation filter, reference, frame type, profile, depth, colour space, colour range.
+VARIANTS = [range(5), range(4), range(2), range(4), (8, 10, 12), range(8), range(2)]
+NUMBERS = [*range(300), 2 ** 16, 2 ** 31, 2 ** 32 - 1]
+
+
+def number_call(n):
+    # A frame type's number is a byte.
+    tried = [n % 256 if i == 2 else n for i in range(len(VARIANTS))]
+    words = [str(m) if m in variants else "-" for m, variants in zip(tried, VARIANTS)]
+    return Call(struct.pack("<BQ", 0, n), " ".join(words).encode())
+
+
+def choice_call(new, last_good, yes, offset, size):
+    chunk = new if yes else last_good
+    part = chunk[offset:offset + size] if offset + size <= len(chunk) else b""
+    return Call(struct.pack("<BBQQQ", 1, yes, offset, size, len(new)) + new + last_good, b"%d %s" % (len(part), part))
+
+
+def choices(dice):
+    """Every place in and around two short chunks, some in longer ones, and places that no sum of 64 bits holds."""
+    new, last_good = b"abcd", b"uvw"
+    near = [*range(6), *LARGE]
+    for yes in (True, False):
+        yield from (choice_call(new, last_good, yes, offset, size) for offset in near for size in near)
+        yield from (choice_call(b"", b"", yes, offset, 0) for offset in (0, 1))
+    for _ in range(500):
+        new, last_good = (bytes(dice.choices(range(97, 123), k=dice.randrange(200))) for _ in range(2))
+        yield choice_call(new, last_good, dice.random() < 0.5, dice.randrange(210), dice.randrange(210))
+
+
+def record_call(file, place):
+    return Call(struct.pack("<BQ", 2, place) + file, record_answer(file, place))
+
+
+def record_answer(file, place):
+    left = len(file) - place
+    if left == 0:
+        return b"end"
+    if left < 12:
+        return b"cut"
+    length, time = struct.unpack_from("<IQ", file, place)
+    if left - 12 < length:
+        return b"cut"
+    return b"%d %d %d %d" % (length, time, place + 12, place + 12 + length)
+
+
+def records(file):
+    """A call at each record of a file, and at its end."""
+    place = 32
+    while place < len(file):
+        call = record_call(file, place)
+        yield call
+        if call.answer == b"cut":
+            return
+        place = int(call.answer.split()[3])
+    yield record_call(file, place)
+
+
+def small_file():
+    return bytes(32) + struct.pack("<IQ", 3, 7) + b"abc" + struct.pack("<IQ", 0, 2 ** 64 - 1)
+
+
+def damaged():
+    """A small file cut everywhere, at every place in and around it; lengths that pass its end; places far past it."""
+    file = small_file()
+    for length in range(32, len(file) + 1):
+        yield from (record_call(file[:length], place) for place in range(30, len(file) + 3))
+    for length in (1, 2 ** 31, 2 ** 32 - 1):
+        yield record_call(bytes(32) + struct.pack("<IQ", length, 0), 32)
+    yield from (record_call(file, place) for place in LARGE)
+
+
+def run(words, data):
+    return subprocess.run(words, input=data, stdout=subprocess.PIPE, check=True).stdout
+
+
+def differences(name, calls, program_words, show=3):
+    got = run(program_words, b"".join(call.record() for call in calls)).split(b"\n")[:-1]
+    assert len(got) == len(calls), f"{name}: {len(calls)} calls, {len(got)} lines"
+    wrong = [(call, line) for call, line in zip(calls, got) if line != b" " + call.answer]
+    for call, line in wrong[:show]:
+        print(f"{name}: asked {call.asked[:64].hex()}: program{line.decode()}, document 01 {call.answer.decode()}")
+    return len(wrong)
+
+
+def rust_differences(judge, numbers, files):
+    """Where document 01's answers, which the program's are held to, aren't the Rust's."""
+    words = run([judge, "--numbers"], "".join(f"{n}\n" for n in NUMBERS).encode()).splitlines()
+    wrong = sum(call.answer != line for call, line in zip(numbers, words, strict=True))
+    for file, calls in files:
+        places = [b" ".join(call.answer.split()[2:]) for call in calls[:-1]]
+        wrong += run([judge, "--packets"], file).splitlines() != places
+    return wrong
+
+
+def write_example(folder):
+    calls = [number_call(n) for n in (0, 3, 8, 12)] + [
+        choice_call(b"abcd", b"uvw", True, 1, 2), choice_call(b"abcd", b"uvw", False, 0, 3), choice_call(b"abcd", b"uvw", False, 2, 2),
+        *records(small_file()), record_call(small_file()[:-1], 47), record_call(small_file(), 2 ** 64 - 1)]
+    with open(os.path.join(folder, "stdin"), "wb") as file:
+        file.write(b"".join(call.record() for call in calls))
+    with open(os.path.join(folder, "stdout"), "wb") as file:
+        file.write(b"".join(b" " + call.answer + b"\n" for call in calls))
+
+
+def main():
+    options = argparse.ArgumentParser(description=__doc__, formatter_class=argparse.RawDescriptionHelpFormatter)
+    options.add_argument("--program", default=program.built("calls"))
+    options.add_argument("--judge")
+    options.add_argument("--write")
+    given = options.parse_args()
+    if given.write:
+        write_example(given.write)
+        return 0
+    words = program.command(given.program, program.kit_tools())
+
+    numbers = [number_call(n) for n in NUMBERS]
+    files = []
+    for path in inputs.recording_paths():
+        with open(path, "rb") as file:
+            data = file.read()
+        if len(data) + 9 <= LONGEST:
+            files.append((data, list(records(data))))
+    read = [call for _, calls in files for call in calls]
+    groups = {"try_from": numbers, "choose_picture": list(choices(random.Random(7))), "read_record": read + list(damaged())}
+    wrong = sum(differences(name, calls, words) for name, calls in groups.items())
+    held = "document 01"
+    if given.judge:
+        wrong += rust_differences(given.judge, numbers, files)
+        held = f"document 01, try_from and the records of {len(files)} whole files with the Rust too"
+    counts = ", ".join(f"{len(calls)} of {name}" for name, calls in groups.items())
+    print(f"calls: {counts}; compared with {held}: {wrong} differences")
+    return 1 if wrong else 0
+
+
+sys.exit(main())
