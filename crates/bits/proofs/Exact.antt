@@ -1,28 +1,17 @@
 -- The laws that callers need of a bit read: its range, that it is its bits one after the other, and that it is one spelling and no other.
 -- Assumes nothing.
-use Prim.Native.Nat.{ℕ, zero, suc, _+_, _*_, _<_, _^_}
+use Prim.Native.Nat.{ℕ, _+_, _<_, _^_}
 use mathlib.Core.Path.{_≡_, sym, ap, _∙_}
 use mathlib.Core.Logic.{_↔_}
 use mathlib.Core.List.{List, append-nil}
-use native.Mathlib.Nat.{add-zero, add-suc, pow-suc, mul-assoc}
-use native.Mathlib.Omega.{arith}
+use native.Mathlib.Nat.{add-zero}
 use Rattle.bits.specs.declared.Bits.{Bits}
-use Rattle.bits.specs.Bit.{bitAt, Stands, spell, number}
+use Rattle.bits.specs.Bit.{Stands, spell}
 use Rattle.bits.specs.Refusal.{Name}
 use Rattle.bits.specs.Read.{readBits}
 use Rattle.bits.specs.Reader.{read, field}
 use Rattle.bits.proofs.Stand.{number-spelt}
 use Rattle.bits.proofs.Laws.{field-reads}
-
--- a read of m + n bits is the one of m bits, followed by the one of n bits
-pub number-join : (s : List ℕ) (p m n : ℕ) → number s p (m + n) ≡ number s p m * 2 ^ n + number s (p + m) n
-unfolding number
-number-join s p m zero = rw add-zero (omega arith)
-number-join s p m (suc n) =
-    let e : number s p (m + suc n) ≡ number s p (m + n) * 2 + bitAt s (p + (m + n)) = rw add-suc in
-    let b : bitAt s (p + (m + n)) ≡ bitAt s (p + m + n) = ap (bitAt s) (omega arith) in
-    let d : number s p m * 2 ^ suc n ≡ number s p m * 2 ^ n * 2 = rw (pow-suc, ← mul-assoc) in
-    omega (arith, e, b, d, number-join s p m n)
 
 -- v is read exactly if v is in range and its n bits stand there
 pub reads-exactly : (x : Name) (s : List ℕ) (p n v : ℕ) → (field x n s p ≡ read v (p + n)) ↔ ((v < 2 ^ n) × Stands s p (spell n v))

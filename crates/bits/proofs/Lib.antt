@@ -1,4 +1,5 @@
 pub mod Number
+pub mod Gather
 pub mod Stand
 pub mod Begins
 pub mod Fields

@@ -1,11 +1,10 @@
 -- Facts on the bits and the number at a place, and what `read_bits` answers in each of its cases.
 -- Assumes nothing.
 use Prim.Native.Nat.{ℕ, zero, suc, _+_, _*_, _%_, _/_, _-_, _^_, _≤_, _<_}
-use mathlib.Core.Path.{_≡_, refl}
+use mathlib.Core.Path.{_≡_, refl, ap}
 use mathlib.Core.Bool.{Bool, true, false}
 use mathlib.Core.List.{List}
-use native.Mathlib.Nat.{mod-lt, add-zero}
-use native.Mathlib.Numerals.{add-one}
+use native.Mathlib.Nat.{mod-lt, add-zero, add-suc, pow-suc, mul-assoc}
 use native.Mathlib.Omega.{arith}
 use lib.ListN.{getD}
 use lib.Pow.{pow-mono}
@@ -24,9 +23,18 @@ unfolding number
 number-lt s p zero = omega arith
 number-lt s p (suc n) = omega (arith, number-lt s p n, bit-lt s (p + n))
 
-pub number-more : (s : List ℕ) (p n : ℕ) → number s p (n + 1) ≡ number s p n * 2 + bitAt s (p + n)
+pub number-under : (s : List ℕ) (p : ℕ) {n m : ℕ} → n ≤ m → number s p n < 2 ^ m
+number-under s p {n} h = omega (arith, number-lt s p n, pow-mono h)
+
+-- a read of m + n bits is the one of m bits, followed by the one of n bits
+pub number-join : (s : List ℕ) (p m n : ℕ) → number s p (m + n) ≡ number s p m * 2 ^ n + number s (p + m) n
 unfolding number
-number-more s p n = rw add-one
+number-join s p m zero = rw add-zero (omega arith)
+number-join s p m (suc n) =
+    let e : number s p (m + suc n) ≡ number s p (m + n) * 2 + bitAt s (p + (m + n)) = rw add-suc in
+    let b : bitAt s (p + (m + n)) ≡ bitAt s (p + m + n) = ap (bitAt s) (omega arith) in
+    let d : number s p m * 2 ^ suc n ≡ number s p m * 2 ^ n * 2 = rw (pow-suc, ← mul-assoc) in
+    omega (arith, e, b, d, number-join s p m n)
 
 pub fits-yes : (s : List ℕ) (p n : ℕ) → p + n ≤ reach s → fits s p n ≡ true
 unfolding fits
@@ -44,15 +52,9 @@ unfolding fits
 fits-short s p zero h = let z : _≡_ {A = ℕ} 0 1 = cc in absurd (omega arith)
 fits-short s p (suc n) h = (omega arith, omega (arith, ltb-false (p + n) (reach s) h))
 
-pub number-small : (s : List ℕ) (p n : ℕ) → n ≤ 31 → number s p n < 2 ^ 31
-number-small s p n h = omega (arith, number-lt s p n, pow-mono h)
-
--- a loop that has taken k bits is at its end
-pub read-value : (s : List ℕ) (p n : ℕ) {v k : ℕ} → v ≡ number s p k → k ≤ n → n ≤ k → n ≤ 31 → p + n ≤ reach s → Value v (record { at = p + n }) ≡ readBits s p n
+pub read-value : (s : List ℕ) (p n : ℕ) {v : ℕ} → v ≡ number s p n → n ≤ 31 → p + n ≤ reach s → Value v (record { at = p + n }) ≡ readBits s p n
 unfolding readBits
-read-value s p n {v} {k} e l m w h =
-    let kn : k ≡ n = omega arith in
-    simp (le-leb n 31 w, fits-yes s p n h, e, kn)
+read-value s p n e w h = simp (le-leb n 31 w, fits-yes s p n h, e)
 
 pub read-none : (s : List ℕ) (p : ℕ) → Value 0 (record { at = p }) ≡ readBits s p 0
 unfolding fits number readBits

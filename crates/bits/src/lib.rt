@@ -1,8 +1,8 @@
 // Reads a field of at most 31 bits, high bit first, at any bit of a slice; and the answers that every reader above shares.
-ghost use Prim.Native.Nat.{_/_, _<_};
+ghost use Prim.Native.Nat.{_+_, _*_, _≤_};
 ghost use mathlib.Core.Path.{_≡_};
 ghost use lib.ListN.{length};
-ghost use Rattle.bits.specs.Bit.{bitAt};
+ghost use Rattle.bits.specs.Bit.{number};
 ghost use Rattle.bits.specs.Read.{readBits, readBitsIf};
 ghost use Rattle.bits.specs.Refusal.{refusalNumber};
 
@@ -56,14 +56,16 @@ pub enum Next {
     Refused(Refusal),
 }
 
-// The bit at a place that the slice has.
-fn bit_at(s: &[u8], p: usize) -> u32
-    requires { ⌜ p / 8 < length (now s) ⌝ }
-    ensures { λ r. ⌜ r ≡ bitAt (now (s .entry)) p ⌝ }
+// The number that whole bytes spell, so many from byte q on.
+fn whole_bytes(s: &[u8], q: usize, count: usize) -> u64
+    requires { ⌜ (count ≤ 5) × (q + count ≤ length (now s)) ⌝ }
+    ensures { λ r. ⌜ r ≡ number (now (s .entry)) (8 * q) (8 * count) ⌝ }
 {
-    let b = s[p / 8];
-    let t = (b >> (7 - p % 8)) % 2;
-    t as u32
+    let mut v: u64 = 0;
+    for k in 0..count {
+        v = v * 256 + s[q + k] as u64;
+    }
+    v
 }
 
 pub fn read_bits(s: &[u8], c: Cursor, n: usize) -> Bits
@@ -81,19 +83,18 @@ pub fn read_bits(s: &[u8], c: Cursor, n: usize) -> Bits
         return Bits::Short;
     }
     // Whole bytes are counted, since the number of bits may pass 64 bits.
-    if (at % 8 + n + 7) / 8 > s.len() - q {
+    let span = at % 8 + n;
+    let count = (span + 7) / 8;
+    if count > s.len() - q {
         return Bits::Short;
     }
     if n > 18446744073709551615 - at {
         return Bits::Short;
     }
-    let mut v: u32 = 0;
-    let mut k: usize = 0;
-    while k < n {
-        v = v * 2 + bit_at(s, at + k);
-        k += 1;
-    }
-    Bits::Value(v, Cursor { at: at + n })
+    // The field without the bits behind it, and then without those before it.
+    let front = whole_bytes(s, q, count) >> (count * 8 - span);
+    let v = front % (1u64 << n);
+    Bits::Value(v as u32, Cursor { at: at + n })
 }
 
 // A field that is there only sometimes: 0 where it isn't, and nothing is read.

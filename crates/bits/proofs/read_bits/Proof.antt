@@ -1,102 +1,90 @@
-use denote.Ref.{now}
-use Prim.Native.Nat.{_+_, _≤_, _-_}
-use mathlib.Core.Path.{_≡_, refl}
 use native.Mathlib.Omega.{arith}
-use Rattle.bits.specs.Bit.{reach, number}
-use Rattle.bits.proofs.Number.{read-value, read-none, read-short, read-wide, number-small, number-more, bit-lt}
+use lib.Pow.{pow-pos}
+use Rattle.bits.specs.Bit.{reach}
+use Rattle.bits.proofs.Number.{number-under, read-value, read-none, read-short, read-wide}
+use Rattle.bits.proofs.Gather.{one-shl, field-taken}
 use Rattle.bits.proofs.read_bits.Statement.{statement}
 use Rattle.bits.proofs.read_bits.Tie as tie
 
-abbrev Inv-loop : tie.InvT-loop
-Inv-loop s n at q v₀ k₀ v k = (k ≤ n) × (v ≡ number s at k)
-
-abbrev μ-loop : tie.MeasureT-loop
-μ-loop s n at q v₀ k₀ v k = n - k
-
-returns : tie.Need-returns Inv-loop μ-loop
+returns : tie.Need-returns
 returns c = read-wide _ _ _ (omega arith)
 
-returns-2 : tie.Need-returns-2 Inv-loop μ-loop
+returns-2 : tie.Need-returns-2
 returns-2 c = rw (c .if2 .taken) (read-none _ _)
 
-returns-3 : tie.Need-returns-3 Inv-loop μ-loop
+returns-3 : tie.Need-returns-3
 unfolding reach
 returns-3 c = read-short _ _ _ (omega arith) (omega arith) (omega arith)
 
-add-if4 : tie.Need-add-if4 Inv-loop μ-loop
-add-if4 c = omega arith
+add-span : tie.Need-add-span
+add-span c = omega arith
 
-add-if4-2 : tie.Need-add-if4-2 Inv-loop μ-loop
-add-if4-2 c = omega arith
+add-count : tie.Need-add-count
+add-count c = omega arith
 
-sub-if4 : tie.Need-sub-if4 Inv-loop μ-loop
+sub-if4 : tie.Need-sub-if4
 sub-if4 c = omega arith
 
-returns-4 : tie.Need-returns-4 Inv-loop μ-loop
+returns-4 : tie.Need-returns-4
 unfolding reach
 returns-4 c = read-short _ _ _ (omega arith) (omega arith) (omega arith)
 
-sub-if5 : tie.Need-sub-if5 Inv-loop μ-loop
+sub-if5 : tie.Need-sub-if5
 sub-if5 c = omega arith
 
-returns-5 : tie.Need-returns-5 Inv-loop μ-loop
+returns-5 : tie.Need-returns-5
 unfolding reach
 returns-5 c = read-short _ _ _ (omega arith) (omega arith) (omega arith)
 
-loop-holds : tie.Need-loop-holds Inv-loop μ-loop
-unfolding number
-loop-holds c = (omega arith, refl)
+whole-bytes-requires : tie.Need-whole-bytes-requires
+whole-bytes-requires c κs = (omega arith, omega arith)
 
-mul-v : tie.Need-mul-v Inv-loop μ-loop
-mul-v c = let a = c .before .before .before .before .before .before .before .before .args in omega (arith, number-small (now (a .s)) (a .c .at) (c .before .loop .k) (omega arith))
+mul-front : tie.Need-mul-front
+mul-front c = omega arith
 
-add-bit-at : tie.Need-add-bit-at Inv-loop μ-loop
-add-bit-at c = omega arith
+sub-front : tie.Need-sub-front
+sub-front c = omega arith
 
-bit-at-requires : tie.Need-bit-at-requires Inv-loop μ-loop
-bit-at-requires c κs = omega arith
+shr-front : tie.Need-shr-front
+shr-front c = omega arith
 
-add-v : tie.Need-add-v Inv-loop μ-loop
-add-v c = let a = c .before .before .before .before .before .before .before .before .before .args in omega (arith, number-small (now (a .s)) (a .c .at) (c .before .before .loop .k) (omega arith), bit-lt (now (a .s)) (a .c .at + c .before .before .loop .k))
+shl-v : tie.Need-shl-v
+shl-v c = omega arith
 
-add-k : tie.Need-add-k Inv-loop μ-loop
-add-k c = omega arith
+rem-v : tie.Need-rem-v
+rem-v c = let n = c .before .before .before .before .before .before .before .args .n in rw (one-shl n (omega arith)) (pow-pos n)
 
-loop-less : tie.Need-loop-less Inv-loop μ-loop
-loop-less c = omega arith
+cast-t15 : tie.Need-cast-t15
+cast-t15 c =
+    let a = c .before .before .before .before .before .before .before .args in
+    rw (field-taken (a .s .now) (a .c .at) (a .n) (omega arith) (c .whole-bytes .ensures)) (record { fits = omega (arith, number-under (a .s .now) (a .c .at) {n = a .n} {m = 31} (omega arith)) })
 
-loop-again : tie.Need-loop-again Inv-loop μ-loop
-loop-again c = (omega arith, rw number-more (cc))
+add-t11 : tie.Need-add-t11
+add-t11 c = omega arith
 
-add-t14 : tie.Need-add-t14 Inv-loop μ-loop
-add-t14 c = omega arith
-
-returns-6 : tie.Need-returns-6 Inv-loop μ-loop
+returns-6 : tie.Need-returns-6
 unfolding reach
-returns-6 c = read-value _ _ _ (c .before .loop .inv .1) (omega arith) (omega arith) (omega arith) (omega arith)
+returns-6 c = read-value _ _ _ (field-taken _ _ _ (omega arith) (c .whole-bytes .ensures)) (omega arith) (omega arith)
 
 pub read-bits-spec : {M : Type 1} → statement M
 read-bits-spec =
     tie.close
     (tie.spec
-    Inv-loop
-    μ-loop
     returns
     returns-2
     returns-3
-    add-if4
-    add-if4-2
+    add-span
+    add-count
     sub-if4
     returns-4
     sub-if5
     returns-5
-    loop-holds
-    mul-v
-    add-bit-at
-    bit-at-requires
-    add-v
-    add-k
-    loop-less
-    loop-again
-    add-t14
+    whole-bytes-requires
+    mul-front
+    sub-front
+    shr-front
+    shl-v
+    rem-v
+    cast-t15
+    add-t11
     returns-6)
