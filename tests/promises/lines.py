@@ -21,7 +21,7 @@ PARTS = [
     ("its record and the state after", "slots/* verdict/* frame_header/* frame_state/* header/Parts header/Record header/State header/Answer"),
     ("a frame, a chunk, the choice", "frame/* index/* chunk_read/* chunk/* choice/*"),
     ("the segment records", "tables/* clamp/* quant/* grid/* levels/* segment_features/* segments/*"),
-    ("IVF files and the listing", "ivf/* recording/* text/* arriving/* line/* frame_line/* listing/*"),
+    ("IVF files and the listing", "ivf/* recording/* arriving/* buffer/* text/* line/* frame_line/* listing/*"),
 ]
 
 
