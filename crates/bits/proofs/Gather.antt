@@ -3,10 +3,12 @@
 use Prim.Native.Nat.{ℕ, zero, suc, _+_, _*_, _%_, _/_, _-_, _^_, _≤_, _<_}
 use mathlib.Core.Path.{_≡_, sym, _∙_}
 use mathlib.Core.List.{List}
-use native.Mathlib.Nat.{pow-suc, div-one, div-eq-of-lt, div-div-eq-div-mul, mul-add-div-right, mul-add-mod-self-right, mod-eq-of-lt, add-zero, one-mul}
+use native.Mathlib.Nat.{pow-suc, div-one, div-eq-of-lt, div-div-eq-div-mul, mul-add-div-right, mul-add-mod-self-right, mod-eq-of-lt, mod-lt, add-zero, one-mul}
 use native.Mathlib.Omega.{arith}
 use lib.ListN.{getD}
-use lib.Pow.{pow-pos, shl-exact}
+use lib.Pow.{pow-pos, pow-mono, shl-exact}
+use mir.Syntax.{w32}
+use mir.Val.{Fits}
 use Rattle.bits.specs.Bit.{bitAt, number}
 use Rattle.bits.proofs.Number.{number-lt, number-join}
 
@@ -40,6 +42,10 @@ field-within s p r n t =
 -- `1 << n`, which the machine has as a product cut to 64 bits
 pub one-shl : (n : ℕ) → n ≤ 31 → 1 * 2 ^ n % 2 ^ 64 ≡ 2 ^ n
 one-shl n h = shl-exact {a = 1} 1 n 64 (omega arith) (omega arith) ∙ one-mul (2 ^ n)
+
+-- what is left of a number under 2^n fits 32 bits
+pub cut-fits : (x n : ℕ) → n ≤ 31 → Fits w32 (x % (1 * 2 ^ n % 2 ^ 64))
+cut-fits x n h = rw (one-shl n h) (record { fits = omega (arith, mod-lt x (pow-pos n), pow-mono {i = n} {j = 31} h) })
 
 -- the n bits from p on, out of the whole bytes that hold them
 pub field-taken : (s : List ℕ) (p n : ℕ) {w : ℕ} → n ≤ 31 → w ≡ number s (8 * (p / 8)) (8 * ((p % 8 + n + 7) / 8)) → w / 2 ^ ((p % 8 + n + 7) / 8 * 8 - (p % 8 + n)) % (1 * 2 ^ n % 2 ^ 64) ≡ number s p n

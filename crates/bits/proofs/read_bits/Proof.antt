@@ -1,8 +1,8 @@
 use native.Mathlib.Omega.{arith}
 use lib.Pow.{pow-pos}
 use Rattle.bits.specs.Bit.{reach}
-use Rattle.bits.proofs.Number.{number-under, read-value, read-none, read-short, read-wide}
-use Rattle.bits.proofs.Gather.{one-shl, field-taken}
+use Rattle.bits.proofs.Number.{read-value, read-none, read-short, read-wide}
+use Rattle.bits.proofs.Gather.{one-shl, cut-fits, field-taken}
 use Rattle.bits.proofs.read_bits.Statement.{statement}
 use Rattle.bits.proofs.read_bits.Tie as tie
 
@@ -55,9 +55,7 @@ rem-v : tie.Need-rem-v
 rem-v c = let n = c .before .before .before .before .before .before .before .args .n in rw (one-shl n (omega arith)) (pow-pos n)
 
 cast-t15 : tie.Need-cast-t15
-cast-t15 c =
-    let a = c .before .before .before .before .before .before .before .args in
-    rw (field-taken (a .s .now) (a .c .at) (a .n) (omega arith) (c .whole-bytes .ensures)) (record { fits = omega (arith, number-under (a .s .now) (a .c .at) {n = a .n} {m = 31} (omega arith)) })
+cast-t15 c = cut-fits _ _ (omega arith)
 
 add-t11 : tie.Need-add-t11
 add-t11 c = omega arith
