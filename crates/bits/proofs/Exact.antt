@@ -16,8 +16,8 @@ use Rattle.bits.proofs.Laws.{field-reads}
 -- v is read exactly if v is in range and its n bits stand there
 pub reads-exactly : (x : Name) (s : List ℕ) (p n v : ℕ) → (field x n s p ≡ read v (p + n)) ↔ ((v < 2 ^ n) × Stands s p (spell n v))
 reads-exactly x s p n v = (
-  λ h. let m = field-reads {x = x} .sound s p v (p + n) h in (m .2 .ranged .0 .0, rw append-nil at (m .2 .stands)),
-  λ h. (rw add-zero at (field-reads {x = x} .complete s p v tt tt (record { ranged = ((h .0, tt), tt); stands = rw append-nil (h .1) }))),
+  λ h. let m = field-reads {x = x} .sound s p v (p + n) h in (m .1 .ranged .0 .0, rw append-nil at (m .1 .stands)),
+  λ h. (rw add-zero at (field-reads {x = x} .complete s p v tt (record { ranged = ((h .0, tt), tt); stands = rw append-nil (h .1) }))),
 )
 
 -- of two numbers in range whose spellings stand there, both are one

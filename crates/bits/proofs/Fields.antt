@@ -1,16 +1,18 @@
 -- Lists of fields: where they stand, and where they stop.
 -- Assumes nothing.
-use Prim.Native.Nat.{ℕ, _+_, _≤_}
-use mathlib.Core.Path.{_≡_, refl}
+use Prim.Native.Nat.{ℕ, _+_, _≤_, _<_, _^_}
+use mathlib.Core.Path.{_≡_, refl, ap}
 use mathlib.Core.Logic.{_⊎_, inl, inr}
 use mathlib.Core.Bool.{Bool, true, false}
 use mathlib.Core.List.{List, [], _∷_, _++_, append-assoc}
 use native.Mathlib.Nat.{add-zero, zero-add, add-assoc}
 use native.Mathlib.Omega.{arith}
 use lib.ListN.{length, length-append}
-use Rattle.bits.specs.Bit.{Stands}
-use Rattle.bits.specs.Refusal.{Name, Reason}
-use Rattle.bits.specs.Syntax.{Field, fld, optional, flat, size, Ranged, Fits, Fault, Stops}
+use lib.Pow.{pow-pos}
+use Rattle.bits.specs.Bit.{Stands, spell}
+use Rattle.bits.specs.Refusal.{Name}
+use Rattle.bits.specs.Syntax.{Field, fld, widthIf, bare, optional, flat, size, Ranged}
+use Rattle.bits.specs.Fault.{Fits, Reason, Fault, cut, wrong, Stops}
 use Rattle.bits.specs.Reader.{Read, read, stopped}
 use Rattle.bits.specs.Law.{Past}
 use Rattle.bits.proofs.Stand.{stands-join, stands-left, stands-right, length-spell}
@@ -27,15 +29,34 @@ size-append (f ∷ fs) gs = rw (size-append fs gs, add-assoc)
 pub size-join : (fs gs : List Field) (m n : ℕ) → size fs ≤ m → size gs ≤ n → size (fs ++ gs) ≤ m + n
 size-join fs gs m n h k = omega (arith, size-append fs gs)
 
+-- of fields that aren't there
+pub bare-size : (fs : List Field) → size (bare fs) ≡ 0
+bare-size [] = refl
+bare-size (f ∷ fs) = rw (bare-size fs)
+
+bare-flat : (fs : List Field) → flat (bare fs) ≡ []
+unfolding spell
+bare-flat [] = refl
+bare-flat (f ∷ fs) = bare-flat fs
+
+pub bare-append : (fs gs : List Field) → bare (fs ++ gs) ≡ bare fs ++ bare gs
+bare-append [] gs = refl
+bare-append (f ∷ fs) gs = rw (bare-append fs gs)
+
+pub bare-twice : (fs : List Field) → bare (bare fs) ≡ bare fs
+bare-twice [] = refl
+bare-twice (f ∷ fs) = rw (bare-twice fs)
+
 pub optional-size : (b : Bool) (fs : List Field) → size (optional b fs) ≤ size fs
 optional-size true fs = omega arith
-optional-size false fs = omega arith
+optional-size false fs = omega (arith, bare-size fs)
 
 pub size-optional : (b : Bool) (fs : List Field) (n : ℕ) → size fs ≤ n → size (optional b fs) ≤ n
 size-optional b fs n h = omega (arith, optional-size b fs)
 
-pub size-if : (b : Bool) (x : Name) (w n : ℕ) → size (optional b (fld x w n ∷ [])) ≤ w
-size-if b x w n = size-optional b (fld x w n ∷ []) w (omega arith)
+pub size-if : (b : Bool) (w : ℕ) → widthIf b w ≤ w
+size-if true w = omega arith
+size-if false w = omega arith
 
 pub length-flat : (fs : List Field) → length (flat fs) ≡ size fs
 length-flat [] = refl
@@ -45,13 +66,34 @@ pub ranged-join : (fs gs : List Field) → Ranged fs → Ranged gs → Ranged (f
 ranged-join [] gs h k = k
 ranged-join (f ∷ fs) gs h k = (h .0, ranged-join fs gs (h .1) k)
 
-ranged-left : (fs gs : List Field) → Ranged (fs ++ gs) → Ranged fs
+pub ranged-left : (fs gs : List Field) → Ranged (fs ++ gs) → Ranged fs
 ranged-left [] gs h = tt
 ranged-left (f ∷ fs) gs h = (h .0, ranged-left fs gs (h .1))
 
-ranged-right : (fs gs : List Field) → Ranged (fs ++ gs) → Ranged gs
+pub ranged-right : (fs gs : List Field) → Ranged (fs ++ gs) → Ranged gs
 ranged-right [] gs h = h
 ranged-right (f ∷ fs) gs h = ranged-right fs gs (h .1)
+
+-- of fields that are all 0, put together as the spelling is
+pub bare-join : (fs gs : List Field) → Ranged (bare fs) → Ranged (bare gs) → Ranged (bare (fs ++ gs))
+bare-join fs gs h k = rw (bare-append fs gs) (ranged-join (bare fs) (bare gs) h k)
+
+pub bare-optional : (b : Bool) (fs : List Field) → Ranged (bare fs) → Ranged (bare (optional b fs))
+bare-optional true fs h = h
+bare-optional false fs h = rw (bare-twice fs) h
+
+-- each number is below 2 to its field's width, whatever is demanded of it
+abbrev pub Within : List Field → Type 0
+Within [] = Unit
+Within (f ∷ fs) = (f .number < 2 ^ (f .width)) × Within fs
+
+pub ranged-within : (fs : List Field) → Ranged fs → Within fs
+ranged-within [] h = tt
+ranged-within (f ∷ fs) h = (h .0 .0, ranged-within fs (h .1))
+
+pub bare-within : (fs : List Field) → Ranged (bare fs) → Within fs
+bare-within [] h = tt
+bare-within (f ∷ fs) h = (omega (arith, h .0 .0, pow-pos (f .width)), bare-within fs (h .1))
 
 pub fits-join : (s : List ℕ) (p : ℕ) (fs gs : List Field) → Fits s p fs → Fits s (p + size fs) gs → Fits s p (fs ++ gs)
 fits-join s p fs gs h k = record {
@@ -70,6 +112,10 @@ fits-right s p fs gs h = record {
   ranged = ranged-right fs gs (h .ranged);
   stands = rw length-flat at (stands-right s p (flat fs) (flat gs) (rw flat-append at (h .stands)));
 }
+
+-- fields that aren't there stand anywhere, and none of them is at fault
+pub bare-fits : (s : List ℕ) (p : ℕ) (fs : List Field) → Ranged (bare fs) → Fits s p (bare fs)
+bare-fits s p fs h = record { ranged = h; stands = rw (bare-flat fs) (unfold Stands in tt) }
 
 pub fits-nil : (s : List ℕ) (p : ℕ) → Fits s p []
 fits-nil s p = record { ranged = tt; stands = unfold Stands in tt }
@@ -116,6 +162,15 @@ pub past-none : {A : Type 0} (p : ℕ) (x : Read A) (b c : List Field) → [] �
 past-none p x [] c e h = rw add-zero h
 past-none p x (y ∷ b) c e h = let z : _≡_ {A = ℕ} 0 1 = cc in absurd (omega arith)
 
+-- the first of some fields that aren't there have no bits
+pub bare-first : (fs b c : List Field) → bare fs ≡ b ++ c → size b ≡ 0
+bare-first fs [] c e = refl
+bare-first [] (y ∷ b) c e = let z : _≡_ {A = ℕ} 0 1 = cc in absurd (omega arith)
+bare-first (f ∷ fs) (y ∷ b) c e =
+    let fy : fld (f .name) 0 (f .number) ≡ y = cc in
+    let r : bare fs ≡ b ++ c = cc in
+    omega (arith, ap (λ (x : Field). x .width) fy, bare-first fs b c r)
+
 pub past-one : {A : Type 0} (s : List ℕ) (p : ℕ) (x : Read A) (f : Field) (b c : List Field) → f ∷ [] ≡ b ++ c → Fits s p b → Past p x → (Fits s p (f ∷ []) → Past (p + size (f ∷ [])) x) → Past (p + size b) x
 past-one s p x f [] c e h k m = rw add-zero k
 past-one s p x f (y ∷ []) c e h k m = let fy : f ≡ y = cc in rw (← fy) (m (rw fy h))
@@ -132,6 +187,19 @@ module _ (s : List ℕ) (p : ℕ) (w : Reason) where
       go : (b : List Field) → [] ≡ b ++ (h .at ∷ h .after) → ⊥
       go [] e = let z : _≡_ {A = ℕ} 0 1 = cc in omega arith
       go (x ∷ b) e = let z : _≡_ {A = ℕ} 0 1 = cc in omega arith
+
+  pub bare-stops : (fs : List Field) → Stops s p (bare fs) w → ⊥
+  bare-stops fs h = go fs (h .before) (h .split) (h .fault)
+    where
+      go : (fs b : List Field) → bare fs ≡ b ++ (h .at ∷ h .after) → Fault s w (p + size (h .before)) (h .at) → ⊥
+      go [] [] e k = let z : _≡_ {A = ℕ} 0 1 = cc in omega arith
+      go [] (x ∷ b) e k = let z : _≡_ {A = ℕ} 0 1 = cc in omega arith
+      go (f ∷ fs) (x ∷ b) e k = let r : bare fs ≡ b ++ (h .at ∷ h .after) = cc in go fs b r k
+      go (f ∷ fs) [] e k = let fx : fld (f .name) 0 (f .number) ≡ h .at = cc in none-at (h .at) fx k
+        where
+          none-at : (x : Field) → fld (f .name) 0 (f .number) ≡ x → Fault s w (p + size (h .before)) x → ⊥
+          none-at x fx (cut o u) = omega (arith, o .some, ap (λ (y : Field). y .width) fx)
+          none-at x fx (wrong j o u) = let d = o .demanded in let z : _≡_ {A = ℕ} 0 1 = cc in omega arith
 
   pub stops-left : (fs gs : List Field) → Stops s p fs w → Stops s p (fs ++ gs) w
   stops-left fs gs h = record {
@@ -174,24 +242,24 @@ module _ (s : List ℕ) (p : ℕ) (w : Reason) where
           )
 
   -- a field alone
-  pub stops-one : (f : Field) → Fault s p f w → Stops s p (f ∷ []) w
+  pub stops-one : (f : Field) → Fault s w p f → Stops s p (f ∷ []) w
   stops-one f h = record { before = []; at = f; after = []; split = refl; well = fits-nil s p; fault = rw add-zero h }
 
-  pub one-stops : (f : Field) → Stops s p (f ∷ []) w → Fault s p f w
+  pub one-stops : (f : Field) → Stops s p (f ∷ []) w → Fault s w p f
   one-stops f h = go (h .before) (h .split) (h .fault)
     where
-      go : (b : List Field) → f ∷ [] ≡ b ++ (h .at ∷ h .after) → Fault s (p + size b) (h .at) w → Fault s p f w
+      go : (b : List Field) → f ∷ [] ≡ b ++ (h .at ∷ h .after) → Fault s w (p + size b) (h .at) → Fault s w p f
       go [] e k = let fa : f ≡ h .at = cc in rw fa (rw add-zero at k)
       go (x ∷ []) e k = let z : _≡_ {A = ℕ} 0 1 = cc in absurd (omega arith)
       go (x ∷ (y ∷ b)) e k = let z : _≡_ {A = ℕ} 0 1 = cc in absurd (omega arith)
 
   -- a field and more
-  pub stops-first : (f : Field) (fs : List Field) → Stops s p (f ∷ fs) w → Fault s p f w ⊎ (Fits s p (f ∷ []) × Stops s (p + size (f ∷ [])) fs w)
+  pub stops-first : (f : Field) (fs : List Field) → Stops s p (f ∷ fs) w → Fault s w p f ⊎ (Fits s p (f ∷ []) × Stops s (p + size (f ∷ [])) fs w)
   stops-first f fs h = go (stops-in (f ∷ []) fs h)
     where
-      go : Stops s p (f ∷ []) w ⊎ (Fits s p (f ∷ []) × Stops s (p + size (f ∷ [])) fs w) → Fault s p f w ⊎ (Fits s p (f ∷ []) × Stops s (p + size (f ∷ [])) fs w)
+      go : Stops s p (f ∷ []) w ⊎ (Fits s p (f ∷ []) × Stops s (p + size (f ∷ [])) fs w) → Fault s w p f ⊎ (Fits s p (f ∷ []) × Stops s (p + size (f ∷ [])) fs w)
       go (inl k) = inl (one-stops f k)
       go (inr k) = inr k
 
-  pub first-stops : (f : Field) (fs : List Field) → Fault s p f w → Stops s p (f ∷ fs) w
+  pub first-stops : (f : Field) (fs : List Field) → Fault s w p f → Stops s p (f ∷ fs) w
   first-stops f fs h = stops-left (f ∷ []) fs (stops-one f h)

@@ -21,10 +21,11 @@ use Rattle.bits.specs.declared.Refusal.{Refusal}
 use Rattle.bits.specs.declared.Refusal.the-variants.{PastEnd}
 use Rattle.bits.specs.Bit.{number, fits}
 use Rattle.bits.specs.Refusal.{Mark, markRefusal, Name, the}
-use Rattle.bits.specs.Syntax.{cutAt}
+use Rattle.bits.specs.Fault.{cutAt}
 use Rattle.bits.specs.Read.{readBits, readBitsIf}
 use Rattle.bits.specs.Reader.{Got, Read, read, stopped, got, refused, pick, bind, over, alter, viewNext, Reader, field, must, fieldIf, groupIf}
-use Rattle.bits.proofs.Laws.{pow-pos, field-reads, field-got, field-cut}
+use lib.Pow.{pow-pos}
+use Rattle.bits.proofs.Laws.{field-reads, field-got, field-cut}
 use Rattle.bits.proofs.Bits.{the-type}
 
 -- two outcomes are not the same
@@ -60,7 +61,7 @@ short-read x s p n r e w t = go (fits s p n) refl
     go false h = field-cut x s p n h
 
 pub field-lt : (x : Name) (s : List ℕ) (p n : ℕ) {v e : ℕ} → field x n s p ≡ read v e → v < 2 ^ n
-field-lt x s p n {v} {e} h = field-reads .sound s p v e h .2 .ranged .0 .0
+field-lt x s p n {v} {e} h = field-reads .sound s p v e h .1 .ranged .0 .0
 
 -- the same as steps along a reading: `search reading` walks a chain of reads
 module _ {A B : Type 0} (x : Name) (s : List ℕ) (p n : ℕ) (f : A → B) (k : ℕ → ℕ → Read A) (r : Bits) (e : r ≡ readBits s p n) where

@@ -9,23 +9,24 @@ use native.Mathlib.Omega.{arith}
 use Rattle.bits.specs.declared.Refusal.{Refusal}
 use Rattle.bits.specs.declared.Refusal.the-variants.{PastEnd}
 use Rattle.bits.specs.Bit.{bitAt, reach, Stands, spell, missing}
-use Rattle.bits.specs.Refusal.{Mark, frameMarker, syncCode, markRefusal, Reason}
-use Rattle.bits.specs.Syntax.{Field, only, Meets, flat, size, Ranged, Fits, Fault, cut, wrong, Stops, cutAt, wrongAt, CutOff, Unmarked}
+use Rattle.bits.specs.Refusal.{Mark, frameMarker, syncCode, markRefusal}
+use Rattle.bits.specs.Syntax.{Field, only, Meets, flat, size, Ranged}
+use Rattle.bits.specs.Fault.{Fits, CutOff, Unmarked, Reason, Fault, cut, wrong, Stops, StopsAt, Over, Other}
 use Rattle.bits.specs.Reader.{Read, read, stopped, refused, over, Reader}
 use Rattle.bits.specs.Law.{Any, Past, Reads}
 use Rattle.bits.proofs.Fields.{fits-join, size-append, length-flat, past-less}
 
 -- the code's refusal e, exactly if the spelling of some values stops for a reason that has it
-told-exactly : {A B : Type 0} {Z : A → Type 0} {f : A → List Field} {r : Reader A} → Reads Any Z f r → (g : A → B) (s : List ℕ) (p : ℕ) (e : Refusal)
-    → (over g (r s p) ≡ refused e) ↔ ((a : A) × (w : Reason) × (w .refusal ≡ e) × Z a × Ranged (f a) × Stops s p (f a) w)
-told-exactly {A} {B} {Z} {f} {r} law g s p e = (λ h. to (r s p) refl h, λ h. rw (law .refuses s p (h .1) (h .0) tt (h .3) (h .5), h .2))
+told-exactly : {A B : Type 0} {f : A → List Field} {r : Reader A} → Reads Any f r → (g : A → B) (s : List ℕ) (p : ℕ) (e : Refusal)
+    → (over g (r s p) ≡ refused e) ↔ ((a : A) × (w : Reason) × (w .refusal ≡ e) × Ranged (f a) × Stops s p (f a) w)
+told-exactly {A} {B} {f} {r} law g s p e = (λ h. to (r s p) refl h, λ h. rw (law .refuses s p (h .1) (h .0) tt (h .4), h .2))
   where
-    to : (x : Read A) → r s p ≡ x → over g x ≡ refused e → (a : A) × (w : Reason) × (w .refusal ≡ e) × Z a × Ranged (f a) × Stops s p (f a) w
+    to : (x : Read A) → r s p ≡ x → over g x ≡ refused e → (a : A) × (w : Reason) × (w .refusal ≡ e) × Ranged (f a) × Stops s p (f a) w
     to (read a q) h k = let z : _≡_ {A = ℕ} 0 1 = cc in absurd (omega arith)
     to (stopped w) h k =
         let we : w .refusal ≡ e = cc in
         let m = law .why s p w h in
-        (m .0, w, we, m .2, m .3, m .4)
+        (m .0, w, we, m .2, m .3)
 
 -- a mark's refusal is not the one of a field that is cut, and is that mark's alone
 mark-not-cut : {X : Type 0} (k : Mark) → markRefusal k ≡ PastEnd → X
@@ -38,60 +39,32 @@ one-mark frameMarker syncCode h = let z : _≡_ {A = ℕ} 0 1 = cc in absurd (om
 one-mark syncCode frameMarker h = let z : _≡_ {A = ℕ} 0 1 = cc in absurd (omega arith)
 one-mark syncCode syncCode h = refl
 
-module _ (s : List ℕ) (p : ℕ) (fs : List Field) where
-  cut-off : (w : Reason) → w .refusal ≡ PastEnd → Stops s p fs w → CutOff s p fs
-  cut-off w e h = go (h .fault)
-    where
-      go : Fault s (p + size (h .before)) (h .at) w → CutOff s p fs
-      go (cut z l u) = record { before = h .before; at = h .at; after = h .after; split = h .split; well = h .well; some = z; past = l }
-      go (wrong n m k d r t ne u) = mark-not-cut k (sym (ap (λ (v : Reason). v .refusal) u) ∙ e)
+module _ {s : List ℕ} {w : Reason} {q : ℕ} {f : Field} where
+  over-end : w .refusal ≡ PastEnd → Fault s w q f → Over s q f
+  over-end e (cut o u) = o
+  over-end e (wrong k o u) = mark-not-cut k (sym (ap (λ (v : Reason). v .refusal) u) ∙ e)
 
-  off-cut : (h : CutOff s p fs) → Stops s p fs (cutAt (h .at .name) (h .at .width) s (p + size (h .before)))
-  off-cut h = record { before = h .before; at = h .at; after = h .after; split = h .split; well = h .well; fault = cut (h .some) (h .past) refl }
+  other-mark : (k : Mark) → w .refusal ≡ markRefusal k → Fault s w q f → Other s k q f
+  other-mark k e (cut o u) = mark-not-cut k (sym e ∙ ap (λ (v : Reason). v .refusal) u)
+  other-mark k e (wrong j o u) = rw (one-mark j k (sym (ap (λ (v : Reason). v .refusal) u) ∙ e)) at o
 
-  unmarked : (w : Reason) (k : Mark) → w .refusal ≡ markRefusal k → Stops s p fs w → Unmarked s p fs k
-  unmarked w k e h = go (h .fault)
-    where
-      go : Fault s (p + size (h .before)) (h .at) w → Unmarked s p fs k
-      go (cut z l u) = mark-not-cut k (sym e ∙ ap (λ (v : Reason). v .refusal) u)
-      go (wrong n m j d r t ne u) =
-          let jk : j ≡ k = one-mark j k (sym (ap (λ (v : Reason). v .refusal) u) ∙ e) in
-          record {
-            before = h .before;
-            at = h .at;
-            after = h .after;
-            split = h .split;
-            well = h .well;
-            found = n;
-            expected = m;
-            demanded = d ∙ ap (only m) jk;
-            range = r;
-            stands = t;
-            differs = ne;
-          }
-
-  marked-not : (k : Mark) (h : Unmarked s p fs k) → Stops s p fs (wrongAt k (h .at .name) (p + size (h .before)) (h .found) (h .expected))
-  marked-not k h = record {
-    before = h .before;
-    at = h .at;
-    after = h .after;
-    split = h .split;
-    well = h .well;
-    fault = wrong (h .found) (h .expected) k (h .demanded) (h .range) (h .stands) (h .differs) refl;
-  }
+module _ {s : List ℕ} {p : ℕ} {fs : List Field} {F G : ℕ → Field → Type 0} where
+  -- the same stop, said in another way
+  stops-so : (h : StopsAt s p fs F) → G (p + size (h .before)) (h .at) → StopsAt s p fs G
+  stops-so h g = record { before = h .before; at = h .at; after = h .after; split = h .split; well = h .well; fault = g }
 
 -- what each number says of the frame: the line of document 01's table for 6, and those for 4 and 5
-module _ {A B : Type 0} {Z : A → Type 0} {f : A → List Field} {r : Reader A} (law : Reads Any Z f r) (g : A → B) (s : List ℕ) (p : ℕ) where
-  pub past-end-exactly : (over g (r s p) ≡ refused PastEnd) ↔ ((a : A) × Z a × Ranged (f a) × CutOff s p (f a))
+module _ {A B : Type 0} {f : A → List Field} {r : Reader A} (law : Reads Any f r) (g : A → B) (s : List ℕ) (p : ℕ) where
+  pub past-end-exactly : (over g (r s p) ≡ refused PastEnd) ↔ ((a : A) × Ranged (f a) × CutOff s p (f a))
   past-end-exactly = (
-    λ h. let m = told-exactly law g s p PastEnd .0 h in (m .0, m .3, m .4, cut-off s p (f (m .0)) (m .1) (m .2) (m .5)),
-    λ h. told-exactly law g s p PastEnd .1 (h .0, _, refl, h .1, h .2, off-cut s p (f (h .0)) (h .3)),
+    λ h. let m = told-exactly law g s p PastEnd .0 h in (m .0, m .3, stops-so (m .4) (over-end (m .2) (m .4 .fault))),
+    λ h. told-exactly law g s p PastEnd .1 (h .0, _, refl, h .1, stops-so (h .2) (cut (h .2 .fault) refl)),
   )
 
-  pub mark-exactly : (k : Mark) → (over g (r s p) ≡ refused (markRefusal k)) ↔ ((a : A) × Z a × Ranged (f a) × Unmarked s p (f a) k)
+  pub mark-exactly : (k : Mark) → (over g (r s p) ≡ refused (markRefusal k)) ↔ ((a : A) × Ranged (f a) × Unmarked s p (f a) k)
   mark-exactly k = (
-    λ h. let m = told-exactly law g s p (markRefusal k) .0 h in (m .0, m .3, m .4, unmarked s p (f (m .0)) (m .1) k (m .2) (m .5)),
-    λ h. told-exactly law g s p (markRefusal k) .1 (h .0, _, refl, h .1, h .2, marked-not s p (f (h .0)) k (h .3)),
+    λ h. let m = told-exactly law g s p (markRefusal k) .0 h in (m .0, m .3, stops-so (m .4) (other-mark k (m .2) (m .4 .fault))),
+    λ h. told-exactly law g s p (markRefusal k) .1 (h .0, _, refl, h .1, stops-so (h .2) (wrong k (h .2 .fault) refl)),
   )
 
 -- of a field that is cut, 1 to n bits are missing, and they are those past the end
@@ -115,11 +88,11 @@ at-number [] x c m k h d = (h .0 .0, h .0 .1, rw d at (h .0 .1))
 at-number (y ∷ b) x c m k h d = at-number b x c m k (h .1) d
 
 -- with the expected bits at the mark that was at fault, and the earlier bits kept, reading passes that mark
-pub mended : {A : Type 0} {Z : A → Type 0} {f : A → List Field} {r : Reader A} → Reads Any Z f r → (s t : List ℕ) (p : ℕ) (k : Mark) (a : A) → Z a → Ranged (f a) → (h : Unmarked s p (f a) k)
-    → reach t ≡ reach s → ((i : ℕ) → i < p + size (h .before) → bitAt t i ≡ bitAt s i) → Stands t (p + size (h .before)) (spell (h .at .width) (h .expected))
+pub mended : {A : Type 0} {f : A → List Field} {r : Reader A} → Reads Any f r → (s t : List ℕ) (p : ℕ) (k : Mark) (a : A) → Ranged (f a) → (h : Unmarked s p (f a) k)
+    → reach t ≡ reach s → ((i : ℕ) → i < p + size (h .before) → bitAt t i ≡ bitAt s i) → Stands t (p + size (h .before)) (spell (h .at .width) (h .fault .expected))
     → Past (p + size (h .before) + h .at .width) (r t p)
-mended {A} {Z} {f} {r} law s t p k a za ra h re same put =
-    let n = at-number (h .before) (h .at) (h .after) (h .expected) k (rw (h .split) at ra) (h .demanded) in
+mended {A} {f} {r} law s t p k a ra h re same put =
+    let n = at-number (h .before) (h .at) (h .after) (h .fault .expected) k (rw (h .split) at ra) (h .fault .demanded) in
     let b : Fits t p (h .before) = record {
       ranged = h .well .ranged;
       stands = stands-also s t p (flat (h .before)) re (λ i l. same i (omega (arith, length-flat (h .before)))) (h .well .stands);
@@ -127,4 +100,4 @@ mended {A} {Z} {f} {r} law s t p k a za ra h re same put =
     let x : Fits t (p + size (h .before)) (h .at ∷ []) = record { ranged = ((n .0, n .1), tt); stands = rw (append-nil, n .2) put } in
     let both = fits-join t p (h .before) (h .at ∷ []) b x in
     let z : size (h .before ++ (h .at ∷ [])) ≡ size (h .before) + (h .at .width + 0) = size-append (h .before) (h .at ∷ []) in
-    past-less _ _ (r t p) (omega (arith, z)) (law .passes t p a (h .before ++ (h .at ∷ [])) (h .after) tt za (h .split ∙ sym (append-assoc (h .before) (h .at ∷ []) (h .after))) both)
+    past-less _ _ (r t p) (omega (arith, z)) (law .passes t p a (h .before ++ (h .at ∷ [])) (h .after) tt (h .split ∙ sym (append-assoc (h .before) (h .at ∷ []) (h .after))) both)

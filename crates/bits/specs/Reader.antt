@@ -8,8 +8,8 @@ use Rattle.bits.specs.declared.Next.{Next}
 use Rattle.bits.specs.declared.Next.the-variants.{At, Refused}
 use Rattle.bits.specs.declared.Refusal.{Refusal}
 use Rattle.bits.specs.Bit.{number, fits}
-use Rattle.bits.specs.Refusal.{Mark, Name, Reason}
-use Rattle.bits.specs.Syntax.{cutAt, wrongAt}
+use Rattle.bits.specs.Refusal.{Mark, Name}
+use Rattle.bits.specs.Fault.{Reason, cutAt, wrongAt}
 
 -- one of two, by a test
 abbrev pub pick : {A : Type 0} → Bool → A → A → A

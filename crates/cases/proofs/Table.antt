@@ -2,6 +2,7 @@
 -- Assumes nothing.
 use mathlib.Core.Path.{refl}
 use Rattle.bits.specs.Bit as Bit
+use Rattle.bits.specs.Many as Many
 use Rattle.bits.specs.Reader as Reader
 use Rattle.coded.specs.Delta as Delta
 use Rattle.coded.specs.Prob as Prob
@@ -13,6 +14,7 @@ use Rattle.start.specs.Profile as Profile
 use Rattle.start.specs.Sync as Sync
 use Rattle.traits.specs.Traits as Traits
 use Rattle.color.specs.Color as Color
+use Rattle.color.specs.Intra as Intra
 use Rattle.sampling.specs.Sampling as Sampling
 use Rattle.refs.specs.Refs as Refs
 use Rattle.sizes.specs.Render as Render
@@ -23,11 +25,17 @@ use Rattle.motion.specs.Filter as Filter
 use Rattle.loop_deltas.specs.LoopDeltas as LoopDeltas
 use Rattle.filter.specs.LoopFilter as LoopFilter
 use Rattle.quantizer.specs.Quantizer as Quantizer
+use Rattle.feature.specs.Feature as Feature
+use Rattle.segment_map.specs.Probs as Probs
+use Rattle.segment_map.specs.Map as Map
+use Rattle.segment_data.specs.Features as SegmentFeatures
+use Rattle.segment_data.specs.Data as Data
 use Rattle.segmentation.specs.Segmentation as Segmentation
 use Rattle.tiles.specs.Limits as Limits
 use Rattle.tiles.specs.Tiles as Tiles
 use Rattle.inter.specs.Inter as Inter
 use Rattle.picture.specs.Key as Key
+use Rattle.picture.specs.IntraOnly as IntraOnly
 use Rattle.motion.specs.Motion as Motion
 use Rattle.refs.specs.Sources as Sources
 use Rattle.lead.specs.Lead as Lead
@@ -35,8 +43,6 @@ use Rattle.lead.specs.Shot as Shot
 use Rattle.tail.specs.Closing as Closing
 use Rattle.tail.specs.Settings as Settings
 use Rattle.slots.specs.Slots as Slots
-use Rattle.frame_header.specs.Record.{frameHeader}
-use Rattle.frame_state.specs.State.{frameState}
 use Rattle.header.specs.Answer as Answer
 use Rattle.header.specs.Frame as Frame
 use Rattle.header.specs.Header as Header
@@ -54,28 +60,26 @@ use Rattle.cases.specs.Table.{framesFrom, table, AllHold}
 
 pub all-hold : AllHold table
 unfolding
-    Bit.spell Bit.bitsOf Bit.bitAt Bit.reach Bit.Stands Bit.number Bit.fits Bit.missing Reader.field Reader.must
-    Reader.groupIf Reader.fieldIf Delta.deltaFields Delta.readDelta Delta.deltaOf Prob.probFields Prob.readProb
-    Prob.probOf Run.runFields Run.readRun Context.contextFields Context.readContext Context.contextOf Kind.kindFields
-    Kind.readKind Kind.kindOf Opening.openingFields Opening.readOpening Opening.openingOf Profile.profileFields
-    Profile.readProfile Sync.syncFields Sync.readSync Traits.traitsFields Traits.readTraits Traits.traitsOf
-    Color.colorFields Color.readColor Color.colorOf Sampling.samplingFields Sampling.readSampling Sampling.samplingOf
-    Refs.refFields Refs.refsFields Refs.readRef Refs.readRefs Refs.refOf Refs.refsOf Render.renderFields
-    Render.readRender Render.renderOf Size.sizeFields Size.readSize Size.sizeOf SizeWithRefs.sizeWithRefsFields
-    SizeWithRefs.readSizeWithRefs SizeWithRefs.sizeWithRefsOf Sizes.sizesFields Sizes.readSizes Sizes.withRender
-    Sizes.sizesOf Filter.filterFields Filter.readFilter Filter.filterOf LoopDeltas.loopDeltasFields
-    LoopDeltas.withDeltas LoopDeltas.loopDeltasOf LoopFilter.loopFilterFields LoopFilter.readLoopFilter
-    LoopFilter.loopFilterOf Quantizer.quantizerFields Quantizer.readQuantizer Quantizer.deltaQOf Quantizer.quantizerOf
-    Quantizer.lossless Segmentation.segmentationFields Segmentation.readSegmentation Segmentation.segmentationOf
-    Limits.first Limits.least Limits.most Tiles.tilesFields Tiles.readTiles Tiles.tilesOf Inter.interFields
-    Inter.readInter Inter.interOf Key.keyFields Key.readKey Key.keyOf Motion.motionFields Motion.readMotion
-    Motion.motionOf Sources.sourcesFields Sources.readSources Sources.sourcesOf Lead.leadFields Lead.readLead
-    Lead.leadOf Shot.shotFields Shot.readShot Shot.shotOf Closing.closingFields Closing.readClosing Closing.closingOf
-    Settings.settingsFields Settings.readSettings Settings.settingsOver Slots.each Answer.parsed Frame.frameFields
-    Frame.readFrame Header.headerFields Header.readHeader Record.shownHeader frameHeader Record.headerOf
-    frameState State.stateAfter Little.little Layout.announced Layout.cut Layout.indexed Layout.layoutOf
-    Layout.start Split.filled Split.first Split.firstPast Split.placed Split.splitOf Frames.stateBefore
-    Frames.frameRead Frames.firstFault Chunk.chunkOf Features.featuresOf Features.featuresIn Levels.levelsOf
-    Levels.levelsAt Levels.deltaGrid Levels.pairOf Levels.segmentLevel Levels.moved Levels.scaled Clamp.clampTo
-    framesFrom
+    Bit.spell Bit.bitsOf Bit.bitAt Bit.reach Bit.Stands Bit.number Bit.fits Bit.missing Many.manyFields Reader.field
+    Reader.must Reader.groupIf Reader.fieldIf Delta.deltaFields Delta.readDelta Delta.deltaOf Prob.probFields
+    Prob.readProb Prob.probOf Run.runFields Run.readRun Context.contextFields Context.readContext Kind.kindFields
+    Kind.readKind Opening.openingFields Opening.readOpening Profile.profileFields Profile.readProfile Sync.syncFields
+    Sync.readSync Traits.traitsFields Traits.readTraits Color.colorFields Color.readColor Color.colorOf
+    Intra.intraColorFields Sampling.samplingFields Sampling.readSampling Refs.refFields Refs.refsFields Refs.readRef
+    Refs.readRefs Refs.refOf Refs.refsOf Render.renderFields Render.readRender Size.sizeFields Size.readSize
+    Size.sizeOf SizeWithRefs.sizeWithRefsFields SizeWithRefs.readSizeWithRefs Sizes.sizesFields Sizes.readSizes
+    Filter.filterFields Filter.readFilter Filter.filterOf LoopDeltas.loopDeltasFields LoopFilter.loopFilterFields
+    LoopFilter.readLoopFilter LoopFilter.loopFilterOf Quantizer.quantizerFields Quantizer.readQuantizer
+    Quantizer.deltaQOf Quantizer.quantizerOf Quantizer.lossless Feature.featureFields Probs.probsFields Map.mapFields
+    SegmentFeatures.featuresFields Data.dataFields Segmentation.segmentationFields Segmentation.readSegmentation
+    Segmentation.segmentationOf Limits.first Limits.least Limits.most Tiles.tilesFields Tiles.readTiles
+    Inter.interFields Inter.readInter Key.keyFields Key.readKey IntraOnly.intraOnlyFields Motion.motionFields
+    Motion.readMotion Sources.sourcesFields Sources.readSources Lead.leadFields Lead.readLead Shot.shotFields
+    Shot.readShot Closing.closingFields Closing.readClosing Settings.settingsFields Settings.readSettings Slots.each
+    Answer.parsed Frame.frameFields Frame.readFrame Header.headerFields Header.readHeader Record.frameOf
+    Record.headerOf State.stateFrom State.stateAfter Little.little Layout.announced Layout.cut Layout.indexed
+    Layout.layoutOf Layout.start Split.filled Split.first Split.firstPast Split.placed Split.splitOf
+    Frames.stateBefore Frames.frameRead Frames.firstFault Chunk.chunkOf Features.featuresOf Features.featuresIn
+    Levels.levelsOf Levels.levelsAt Levels.deltaGrid Levels.pairOf Levels.segmentLevel Levels.moved Levels.scaled
+    Clamp.clampTo framesFrom
 all-hold = (refl, (refl, (refl, (refl, (refl, (refl, (refl, (refl, (refl, ((refl, refl), ((refl, refl), ((refl, refl), ((refl, refl), ((refl, refl, refl), ((refl, refl, refl), tt)))))))))))))))

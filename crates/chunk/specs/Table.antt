@@ -1,15 +1,15 @@
 -- Document 01's table for a chunk, stated on its bytes and the state before it. proofs/Table.antt shows that `chunkOf` is so.
 -- Assumes nothing.
 use Prim.Native.Nat.{ℕ, _<_}
-use mathlib.Core.Path.{_≡_}
 use mathlib.Core.List.{List}
 use Rattle.bits.specs.declared.Refusal.{Refusal}
 use Rattle.bits.specs.declared.Refusal.the-variants.{FrameMarker, SyncCode, PastEnd}
 use Rattle.bits.specs.Refusal.{frameMarker, syncCode}
-use Rattle.bits.specs.Syntax.{Ranged, CutOff, Unmarked}
+use Rattle.bits.specs.Syntax.{Ranged}
+use Rattle.bits.specs.Fault.{CutOff, Unmarked}
 use Rattle.settings.specs.declared.size.FrameSize.{FrameSize}
 use Rattle.types.specs.declared.state.ReaderState.{ReaderState}
-use Rattle.header.specs.Header.{HeaderValues, headerFields, HeaderLacks}
+use Rattle.header.specs.Header.{HeaderValues, headerFields}
 use Rattle.header.specs.Spelled.{Spelled}
 use Rattle.index.specs.declared.Answer.the-variants as split
 use Rattle.index.specs.Split.{splitOf}
@@ -36,7 +36,7 @@ Stops slots s SyncCode v = Unmarked s 0 (headerFields slots v) syncCode
 Stops slots s PastEnd v = CutOff s 0 (headerFields slots v)
 
 abbrev pub AtFault : List FrameSize → List ℕ → Refusal → Type 0
-AtFault slots s e = (v : HeaderValues) × HeaderLacks slots v × Ranged (headerFields slots v) × Stops slots s e v
+AtFault slots s e = (v : HeaderValues) × Ranged (headerFields slots v) × Stops slots s e v
 
 -- the headers of the first n frames are spelled, each under the sizes that the frames before it left
 abbrev pub EachSpelled : List ℕ → ReaderState → ℕ → Type 0

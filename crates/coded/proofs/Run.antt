@@ -16,12 +16,12 @@ use Rattle.bits.specs.declared.Bits.the-variants.{Value}
 use Rattle.bits.specs.declared.Cursor.{Cursor}
 use Rattle.bits.specs.declared.Refusal.the-variants.{PastEnd}
 use Rattle.bits.specs.Refusal.{item}
-use Rattle.bits.specs.Syntax.{fld, size}
+use Rattle.bits.specs.Syntax.{fld, size, Ranged, bare}
 use Rattle.bits.specs.Read.{readBits}
-use Rattle.bits.specs.Reader.{Read, read, stopped, got, refused, pick, pickT, bind, over}
+use Rattle.bits.specs.Reader.{Read, read, stopped, got, refused, pick, bind, over}
 use Rattle.bits.specs.Law.{Any, Reads}
 use Rattle.bits.proofs.Bits.{the-type}
-use Rattle.bits.proofs.Laws.{take-in, branch-in, last, respelt, done}
+use Rattle.bits.proofs.Laws.{field-reads, group-if, take-in, branch-in, last, respelt, done}
 use Rattle.bits.proofs.Steps.{value-read, short-read}
 use Rattle.coded.specs.Run.{runFields, readRun}
 
@@ -36,16 +36,6 @@ module _ (x : String) (b : ℕ) (bit : b < 2) where
   unfolding runFields first
   unrolled i n zero = rw (ne-eqb (1 - b) b (λ e. omega arith))
   unrolled i n (suc k) = rw (eq-eqb b b refl)
-
-  few : (n k : ℕ) → pickT (eqb (first k) b) (pred k ≤ n) Unit → k ≤ suc n
-  unfolding first
-  few n zero y = omega arith
-  few n (suc k) y = omega (arith, rw (eq-eqb b b refl) at y)
-
-  less : (n k : ℕ) → k ≤ suc n → pickT (eqb (first k) b) (pred k ≤ n) Unit
-  unfolding first
-  less n zero y = rw (ne-eqb (1 - b) b (λ e. omega arith)) tt
-  less n (suc k) y = rw (eq-eqb b b refl) (omega arith)
 
   -- what the first bit tells of the count
   none-if : (k a : ℕ) → first k ≡ a → eqb a b ≡ false → k ≡ 0
@@ -62,15 +52,28 @@ module _ (x : String) (b : ℕ) (bit : b < 2) where
   other : (a : ℕ) → a < 2 → eqb a b ≡ false → 1 - b ≡ a
   other a l f = omega (arith, eqb-false a b f)
 
-  pub run-reads : (i n : ℕ) → Reads Any (λ k. k ≤ n) (runFields x b i n) (readRun x b i n)
+  pub run-reads : (i n : ℕ) → Reads Any (runFields x b i n) (readRun x b i n)
   unfolding readRun
-  run-reads i zero = unfold runFields in done _ tt (omega arith) (λ c k y. omega arith)
+  run-reads i zero = unfold runFields in group-if false 0 ((omega arith, tt), tt) (field-reads {x = item x i} {n = 0})
   run-reads i (suc n) =
-      respelt (λ k u. unrolled i n k) (λ k u y. few n k y) (λ k u y. less n k y)
+      respelt (λ k u. unrolled i n k)
       (take-in first λ a lt.
       branch-in (eqb a b) (λ k. eqb (first k) b) (λ k u. rw (u .1))
       (λ e. last (λ k. pred k) (run-reads (i + 1) n) (λ m. (tt, unfold first in sym (eqb-true a b e))) (λ m. refl) (λ k u. some-if k a (u .1) e))
-      (λ e. done _ (tt, unfold first in other a lt e) tt (λ k u y. none-if k a (u .1) e)))
+      (λ e. done _ (tt, unfold first in other a lt e) (λ k u. none-if k a (u .1) e)))
+
+-- of a run in range no more than n bits are counted
+pub run-few : (x : String) (b i n k : ℕ) → Ranged (runFields x b i n k) → k ≤ n
+unfolding runFields
+run-few x b i zero k h = omega (arith, h .0 .0)
+run-few x b i (suc n) zero h = omega arith
+run-few x b i (suc n) (suc k) h = omega (arith, run-few x b (i + 1) n k (h .1))
+
+-- none that is 1
+pub run-nil : (x : String) (i n : ℕ) → Ranged (bare (runFields x 1 i n 0))
+unfolding runFields
+run-nil x i zero = omega arith
+run-nil x i (suc n) = omega arith
 
 -- a run of at most n bits takes at most n
 pub run-size : (x : String) (b i n k : ℕ) → size (runFields x b i n k) ≤ n

@@ -8,9 +8,9 @@ use Rattle.bits.specs.Refusal.{item}
 use Rattle.bits.specs.Syntax.{Field, fld}
 use Rattle.bits.specs.Reader.{pick, Reader, give, _>>=_, field}
 
--- spelling: k bits b, of at most n, the first of them number i of the name x
+-- spelling: k bits b, the first of them number i of the name x; what is counted past n of them has no bits, and so is 0
 unfoldable pub runFields : String → ℕ → ℕ → ℕ → ℕ → List Field
-runFields x b i zero k = []
+runFields x b i zero k = fld (item x i) 0 k ∷ []
 runFields x b i (suc n) zero = fld (item x i) 1 (1 - b) ∷ []
 runFields x b i (suc n) (suc k) = fld (item x i) 1 b ∷ runFields x b (i + 1) n k
 

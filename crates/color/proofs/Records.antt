@@ -17,7 +17,7 @@ use Rattle.color.specs.Intra.{fixedColor, readIntraColor, intraColorOf}
 pub color-read : (profile d n p : ℕ) (v : SamplingValues) (depth : BitDepth) (space : ColorSpace) (a : Sampling) → depth ≡ depthOf profile d → space ≡ colorSpaceOf n → a ≡ samplingOf profile n v
     → got (record { «bit_depth» = depth; «color_space» = space; «color_range» = a .«color_range»; «subsampling_x» = a .«subsampling_x»; «subsampling_y» = a .«subsampling_y» }) p
     ≡ got (colorOf profile (record { ten-or-twelve-bit = d; color-space = n; sampling = v })) p
-unfolding colorOf
+unfolding colorOf samplingOf
 color-read profile d n p v depth space a ed es ea = rw (ed, es, ea)
 
 module _ (s : List ℕ) (p n : ℕ) where

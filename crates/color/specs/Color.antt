@@ -2,16 +2,16 @@
 -- Assumes nothing.
 use Prim.Native.Nat.{ℕ}
 use mathlib.Core.Bool.{Bool}
-use mathlib.Core.List.{List, [], _∷_, _++_}
+use mathlib.Core.List.{List, _∷_}
 use lib.Dec.{leb}
 use Rattle.bits.specs.Refusal.{the}
-use Rattle.bits.specs.Syntax.{Field, fld, flag, optional, Coded}
+use Rattle.bits.specs.Syntax.{Field, fld, flag, fldIf}
 use Rattle.bits.specs.Reader.{Got, got, refused, pick, Reader, give, _>>=_, field, fieldIf}
 use Rattle.bits.specs.declared.Refusal.the-variants.{PastEnd}
 use Rattle.enums.specs.ColorSpace.{colorSpaceOf}
 use Rattle.enums.specs.declared.BitDepth.{BitDepth}
 use Rattle.enums.specs.declared.BitDepth.the-variants.{Depth8, Depth10, Depth12}
-use Rattle.sampling.specs.Sampling.{SamplingValues, noSampling, samplingFields, SamplingLacks, readSampling, samplingOf}
+use Rattle.sampling.specs.Sampling.{SamplingValues, noSampling, samplingFields, readSampling, rangeOf, subsampling}
 use Rattle.color.specs.declared.Color.{Color}
 use Rattle.color.specs.declared.ColorRead.{ColorRead}
 use Rattle.color.specs.declared.ColorRead.the-variants.{Value, Short}
@@ -21,9 +21,6 @@ pub record ColorValues : Type 0 where
   pub color-space : ℕ
   pub sampling : SamplingValues
 
-abbrev pub noColor : ColorValues
-noColor = record { ten-or-twelve-bit = 0; color-space = 0; sampling = noSampling }
-
 -- profiles 2 and 3 code the depth
 abbrev pub deep : ℕ → Bool
 deep profile = leb 2 profile
@@ -31,20 +28,9 @@ deep profile = leb 2 profile
 -- spelling
 unfoldable pub colorFields : ℕ → ColorValues → List Field
 colorFields profile v =
-    optional (deep profile) (fld (the "ten_or_twelve_bit") 1 (v .ten-or-twelve-bit) ∷ [])
-    ++ (fld (the "color_space") 3 (v .color-space)
-    ∷ samplingFields profile (v .color-space) (v .sampling))
-
-unfoldable pub ColorLacks : ℕ → ColorValues → Type 0
-ColorLacks profile v = Coded (deep profile) (v .ten-or-twelve-bit) × SamplingLacks profile (v .color-space) (v .sampling)
-
--- reading
-unfoldable pub readColor : ℕ → Reader ColorValues
-readColor profile = do
-  d ← fieldIf (deep profile) (the "ten_or_twelve_bit") 1
-  c ← field (the "color_space") 3
-  m ← readSampling profile c
-  give (record { ten-or-twelve-bit = d; color-space = c; sampling = m })
+    fldIf (deep profile) (the "ten_or_twelve_bit") 1 (v .ten-or-twelve-bit)
+    ∷ fld (the "color_space") 3 (v .color-space)
+    ∷ samplingFields profile (v .color-space) (v .sampling)
 
 -- record
 abbrev pub depthOf : ℕ → ℕ → BitDepth
@@ -55,10 +41,21 @@ colorOf profile v =
     record {
       «bit_depth» = depthOf profile (v .ten-or-twelve-bit);
       «color_space» = colorSpaceOf (v .color-space);
-      «color_range» = samplingOf profile (v .color-space) (v .sampling) .«color_range»;
-      «subsampling_x» = samplingOf profile (v .color-space) (v .sampling) .«subsampling_x»;
-      «subsampling_y» = samplingOf profile (v .color-space) (v .sampling) .«subsampling_y»;
+      «color_range» = rangeOf (v .color-space) (v .sampling .color-range);
+      «subsampling_x» = subsampling profile (v .color-space) (v .sampling .subsampling-x);
+      «subsampling_y» = subsampling profile (v .color-space) (v .sampling .subsampling-y);
     }
+
+-- reading
+abbrev pub noColor : ColorValues
+noColor = record { ten-or-twelve-bit = 0; color-space = 0; sampling = noSampling }
+
+unfoldable pub readColor : ℕ → Reader ColorValues
+readColor profile = do
+  d ← fieldIf (deep profile) (the "ten_or_twelve_bit") 1
+  c ← field (the "color_space") 3
+  m ← readSampling profile c
+  give (record { ten-or-twelve-bit = d; color-space = c; sampling = m })
 
 -- the code's answer
 abbrev pub viewColor : ColorRead → Got Color

@@ -4,12 +4,12 @@ use Prim.Native.Nat.{ℕ}
 use mathlib.Core.Bool.{Bool, true}
 use mathlib.Core.List.{List}
 use lib.Dec.{ltb}
-use Rattle.bits.specs.Syntax.{Field, optional, Given}
+use Rattle.bits.specs.Syntax.{Field, optional}
 use Rattle.bits.specs.Reader.{pick, Reader, groupIf}
 use Rattle.enums.specs.declared.BitDepth.the-variants.{Depth8}
 use Rattle.enums.specs.declared.ColorRange.the-variants.{StudioSwing}
 use Rattle.enums.specs.declared.ColorSpace.the-variants.{Bt601}
-use Rattle.color.specs.Color.{ColorValues, noColor, colorFields, ColorLacks, readColor, colorOf}
+use Rattle.color.specs.Color.{ColorValues, noColor, colorFields, readColor, colorOf}
 use Rattle.color.specs.declared.Color.{Color}
 
 -- profiles over 0 code the colour
@@ -19,13 +19,6 @@ colored profile = ltb 0 profile
 -- spelling
 unfoldable pub intraColorFields : ℕ → ColorValues → List Field
 intraColorFields profile v = optional (colored profile) (colorFields profile v)
-
-unfoldable pub IntraColorLacks : ℕ → ColorValues → Type 0
-IntraColorLacks profile v = Given (colored profile) (ColorLacks profile) noColor v
-
--- reading
-unfoldable pub readIntraColor : ℕ → Reader ColorValues
-readIntraColor profile = groupIf (colored profile) noColor (readColor profile)
 
 -- record: profile 0 has depth 8, colour space 1, range 0 and both subsamplings
 abbrev pub fixedColor : Color
@@ -40,3 +33,7 @@ fixedColor =
 
 unfoldable pub intraColorOf : ℕ → ColorValues → Color
 intraColorOf profile v = pick (colored profile) (colorOf profile v) fixedColor
+
+-- reading
+unfoldable pub readIntraColor : ℕ → Reader ColorValues
+readIntraColor profile = groupIf (colored profile) noColor (readColor profile)

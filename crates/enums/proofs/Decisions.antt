@@ -4,7 +4,7 @@ use mathlib.Core.Path.{_≡_, refl}
 use Prim.Native.Nat.{ℕ, _<_}
 use Rattle.enums.specs.Numbered.{numbered, Decides}
 use Rattle.enums.proofs.Numbered.{Listed, decides, comes-back}
-use Rattle.enums.specs.InterpolationFilter.{filterNumber, filters, filterNumbered, filterLiteral, filterOfLiteral}
+use Rattle.enums.specs.InterpolationFilter.{filterNumber, filters, filterNumbered, filterOfLiteral}
 use Rattle.enums.specs.declared.InterpolationFilter.the-variants.{EightTap, EightTapSmooth, EightTapSharp, Bilinear, Switchable}
 use Rattle.enums.specs.declared.TryInterpolationFilter.the-variants as try-filter
 use Rattle.enums.specs.ReferenceFrameType.{referenceNumber, references, referenceNumbered}
@@ -25,6 +25,7 @@ use Rattle.enums.specs.declared.TryColorSpace.the-variants as try-colorS
 use Rattle.enums.specs.ColorRange.{colorRangeNumber, colorRanges, colorRangeNumbered, colorRangeOf}
 use Rattle.enums.specs.declared.ColorRange.the-variants.{StudioSwing, FullSwing}
 use Rattle.enums.specs.declared.TryColorRange.the-variants as try-colorRange
+use Rattle.enums.specs.declared.InterpolationFilter.{InterpolationFilter}
 
 filters-listed : Listed filterNumber filters
 unfolding numbered
@@ -98,17 +99,21 @@ colorRanges-decided = decides colorRangeNumber try-colorRange.Ok try-colorRange.
 
 -- The readings of one to three bits lose nothing: what they give has the number that was read.
 pub profile-read : (n : ℕ) → n < 4 → profileNumber (profileOf n) ≡ n
-unfolding numbered
 profile-read = comes-back profileNumber profileOf 4 tt
 
 pub color-space-read : (n : ℕ) → n < 8 → colorSpaceNumber (colorSpaceOf n) ≡ n
-unfolding numbered
 color-space-read = comes-back colorSpaceNumber colorSpaceOf 8 tt
 
 pub color-range-read : (n : ℕ) → n < 2 → colorRangeNumber (colorRangeOf n) ≡ n
-unfolding numbered
 color-range-read = comes-back colorRangeNumber colorRangeOf 2 tt
 
+-- the literal of each filter; Switchable's lies past two bits
+abbrev filterLiteral : InterpolationFilter → ℕ
+filterLiteral EightTapSmooth = 0
+filterLiteral EightTap = 1
+filterLiteral EightTapSharp = 2
+filterLiteral Bilinear = 3
+filterLiteral Switchable = 4
+
 pub literal-read : (n : ℕ) → n < 4 → filterLiteral (filterOfLiteral n) ≡ n
-unfolding numbered
 literal-read = comes-back filterLiteral filterOfLiteral 4 tt

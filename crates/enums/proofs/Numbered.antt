@@ -1,13 +1,15 @@
 -- The laws of numbers and variants, once for every enum, and the steps by which a match over a number is proved.
 -- Assumes nothing.
 use mathlib.Core.Path.{_≡_, refl, sym, _∙_}
-use mathlib.Core.List.{List, [], _∷_}
+use mathlib.Core.List.{List, [], _∷_, _++_}
 use mathlib.Core.Bool.{Bool, true, false}
-use Prim.Native.Nat.{ℕ, zero, suc, _<_}
+use Prim.Native.Nat.{ℕ, zero, suc, _<_, _≤_, zero-le}
 use native.Mathlib.Omega.{arith}
 use lib.Dec.{T, eqb}
 use borrow.Author.Tests.{ne-eqb, eqb-true, eqb-false}
-use Rattle.enums.specs.Numbered.{Answer, some, none, pick, numbered, answered, orElse, Decides}
+use Rattle.enums.specs.Numbered.{Answer, some, none, pick, numbered, answered, Decides}
+use lib.ListN.{getD, length}
+use types.Run.{OneOf}
 
 -- The steps: an arm that names the number k, and the last arm, which has passed each number.
 module _ {A R : Type 0} (ok : A → R) (err : R) (f : A → ℕ) (n : ℕ) (x : R) where
@@ -23,16 +25,30 @@ module _ {A R : Type 0} (ok : A → R) (err : R) (f : A → ℕ) (n : ℕ) (x : 
   unfolding numbered
   passed-two a b l e g h = rw (ne-eqb n (f a) e, ne-eqb n (f b) g) h
 
--- the last arm gives its variant to every number that is left
-pub last : {A : Type 0} (f : A → ℕ) (n : ℕ) (d : A) → d ≡ orElse d (numbered f (d ∷ []) n)
-unfolding numbered
-last f n d = go (eqb n (f d))
-  where
-    go : (b : Bool) → d ≡ orElse d (pick b (some d) none)
-    go true = refl
-    go false = refl
+-- what the last arm of a match knows: n is none of the first k numbers
+abbrev pub Passed : ℕ → ℕ → Type 0
+Passed zero n = Unit
+Passed (suc k) n = Passed k n × (OneOf (k ∷ []) n → ⊥)
 
-pub ruleset numbering = (named, passed-two, passed, last)
+at-least : (k n : ℕ) → Passed k n → k ≤ n
+at-least zero n h = zero-le
+at-least (suc k) n h = omega (arith, at-least k n (h .0), h .1)
+
+-- The same of a list by its places: an arm that names the place k, and the last arm, which gives its variant to every number that is left.
+module _ {A : Type 0} where
+  pub placed : (l : List A) (n : ℕ) (d x : A) (k : ℕ) → n ≡ k → x ≡ getD l k d → x ≡ getD l n d
+  placed l n d x k e h = rw e h
+
+  pub left : (l : List A) (d : A) (n : ℕ) → Passed (length l) n → d ≡ getD (l ++ (d ∷ [])) n d
+  left l d n h = go l n (at-least (length l) n h)
+    where
+      go : (l : List A) (n : ℕ) → length l ≤ n → d ≡ getD (l ++ (d ∷ [])) n d
+      go [] zero h = refl
+      go [] (suc n) h = refl
+      go (x ∷ l) zero h = absurd (omega arith)
+      go (x ∷ l) (suc n) h = go l n (omega arith)
+
+pub ruleset numbering = (named, passed-two, passed, placed)
 
 -- The law: a list that answers each variant to its number is a decision over every number.
 module _ {A : Type 0} (f : A → ℕ) where

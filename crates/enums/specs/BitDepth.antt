@@ -7,6 +7,7 @@ use Rattle.enums.specs.declared.BitDepth.the-variants.{Depth8, Depth10, 
 use Rattle.enums.specs.declared.TryBitDepth.{TryBitDepth}
 use Rattle.enums.specs.declared.TryBitDepth.the-variants.{Ok, Err}
 
+-- numbers
 abbrev pub depthNumber : BitDepth → ℕ
 depthNumber Depth8 = 8
 depthNumber Depth10 = 10

@@ -7,6 +7,7 @@ use Rattle.enums.specs.declared.FrameType.the-variants.{KeyFrame, InterF
 use Rattle.enums.specs.declared.TryFrameType.{TryFrameType}
 use Rattle.enums.specs.declared.TryFrameType.the-variants.{Ok, Err}
 
+-- numbers
 abbrev pub frameTypeNumber : FrameType → ℕ
 frameTypeNumber KeyFrame = 0
 frameTypeNumber InterFrame = 1

@@ -1,12 +1,22 @@
 -- InterpolationFilter: the number of each variant, and the variant of each number.
 use Prim.Native.Nat.{ℕ}
 use mathlib.Core.List.{List, [], _∷_}
-use Rattle.enums.specs.Numbered.{numbered, answered, orElse}
+use Rattle.enums.specs.Numbered.{numbered, answered}
 use Rattle.enums.specs.declared.InterpolationFilter.{InterpolationFilter}
 use Rattle.enums.specs.declared.InterpolationFilter.the-variants.{EightTap, EightTapSmooth, EightTapSharp, Bilinear, Switchable}
 use Rattle.enums.specs.declared.TryInterpolationFilter.{TryInterpolationFilter}
 use Rattle.enums.specs.declared.TryInterpolationFilter.the-variants.{Ok, Err}
+use lib.ListN.{getD}
 
+-- record: VP9's two-bit literals in order; Switchable has a bit of its own
+abbrev pub literals : List InterpolationFilter
+literals = EightTapSmooth ∷ EightTap ∷ EightTapSharp ∷ Bilinear ∷ []
+
+-- every number past the last literal gives Bilinear
+abbrev pub filterOfLiteral : ℕ → InterpolationFilter
+filterOfLiteral n = getD literals n Bilinear
+
+-- numbers
 abbrev pub filterNumber : InterpolationFilter → ℕ
 filterNumber EightTap = 0
 filterNumber EightTapSmooth = 1
@@ -19,18 +29,3 @@ filters = EightTap ∷ EightTapSmooth ∷ EightTapSharp ∷ Bilinear ∷ Switcha
 
 abbrev pub filterNumbered : ℕ → TryInterpolationFilter
 filterNumbered n = answered Ok Err (numbered filterNumber filters n)
-
--- VP9's two-bit literals. Switchable has a bit of its own: its 4 lies past two bits
-abbrev pub filterLiteral : InterpolationFilter → ℕ
-filterLiteral EightTapSmooth = 0
-filterLiteral EightTap = 1
-filterLiteral EightTapSharp = 2
-filterLiteral Bilinear = 3
-filterLiteral Switchable = 4
-
-abbrev pub literals : List InterpolationFilter
-literals = EightTapSmooth ∷ EightTap ∷ EightTapSharp ∷ Bilinear ∷ []
-
--- every number past the last literal gives Bilinear
-abbrev pub filterOfLiteral : ℕ → InterpolationFilter
-filterOfLiteral n = orElse Bilinear (numbered filterLiteral literals n)

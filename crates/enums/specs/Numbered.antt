@@ -6,6 +6,7 @@ use mathlib.Core.Bool.{Bool, true, false}
 use mathlib.Core.Logic.{_↔_}
 use lib.Dec.{eqb}
 
+-- numbers
 pub data Answer (A : Type 0) : Type 0 where
   some : A → Answer A
   none : Answer A
@@ -23,10 +24,6 @@ numbered f (a ∷ others) n = pick (eqb n (f a)) (some a) (numbered f others n)
 abbrev pub answered : {A R : Type 0} → (A → R) → R → Answer A → R
 answered ok err (some a) = ok a
 answered ok err none = err
-
--- an answer, or d where there is none
-abbrev pub orElse : {A : Type 0} → A → Answer A → A
-orElse d = answered (λ a. a) d
 
 -- what makes t a decision over each number: it answers a to a's number and to no other, and refuses exactly what numbers nothing
 pub record Decides {A R : Type 0} (ok : A → R) (err : R) (f : A → ℕ) (t : ℕ → R) : Type 0 where

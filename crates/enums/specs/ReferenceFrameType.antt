@@ -7,6 +7,7 @@ use Rattle.enums.specs.declared.ReferenceFrameType.the-variants.{Intra, 
 use Rattle.enums.specs.declared.TryReferenceFrameType.{TryReferenceFrameType}
 use Rattle.enums.specs.declared.TryReferenceFrameType.the-variants.{Ok, Err}
 
+-- numbers
 abbrev pub referenceNumber : ReferenceFrameType → ℕ
 referenceNumber Intra = 0
 referenceNumber Last = 1

@@ -3,6 +3,7 @@ use Prim.Native.Nat.{ℕ}
 use Rattle.enums.specs.declared.SegLvl.{SegLvl}
 use Rattle.enums.specs.declared.SegLvl.the-variants.{AltQ, AltL, RefFrame, LvlSkip}
 
+-- numbers
 abbrev pub segLvlNumber : SegLvl → ℕ
 segLvlNumber AltQ = 0
 segLvlNumber AltL = 1

@@ -4,16 +4,17 @@ use Prim.Native.Nat.{ℕ}
 use Prim.Native.String.{String}
 use mathlib.Core.Path.{_≡_}
 use mathlib.Core.Bool.{Bool, true, false, _&&_}
-use mathlib.Core.List.{List, [], _∷_, _++_}
+use mathlib.Core.List.{List, [], _∷_}
 use lib.ListN.{getD}
 use Rattle.bits.specs.Refusal.{Name}
-use Rattle.bits.specs.Syntax.{Field, fld, flag, optional, Coded}
+use Rattle.bits.specs.Syntax.{Field, fld, flag, fldIf}
 use Rattle.bits.specs.Reader.{Got, got, refused, Reader, give, _>>=_, field, fieldIf, over}
 use Rattle.bits.specs.declared.Refusal.the-variants.{PastEnd}
 use Rattle.coded.specs.Signed.{signed}
 use Rattle.feature.specs.declared.Feature.{Feature}
 use Rattle.feature.specs.declared.FeatureRead.{FeatureRead}
 use Rattle.feature.specs.declared.FeatureRead.the-variants.{Value, Short}
+use lib.IntN.{ℤ}
 
 -- segmentation_feature_bits and segmentation_feature_signed: quantizer, filter level, reference, skip
 unfoldable pub featureBits : ℕ → ℕ
@@ -31,20 +32,25 @@ pub record FeatureValues : Type 0 where
   pub feature-value : ℕ
   pub feature-sign : ℕ
 
-abbrev pub noFeature : FeatureValues
-noFeature = record { feature-enabled = 0; feature-value = 0; feature-sign = 0 }
-
 -- spelling
 unfoldable pub featureFields : ℕ → ℕ → FeatureValues → List Field
 featureFields i j v =
     fld (feature "feature_enabled" i j) 1 (v .feature-enabled)
-    ∷ (optional (flag (v .feature-enabled)) (fld (feature "feature_value" i j) (featureBits j) (v .feature-value) ∷ [])
-    ++ optional (flag (v .feature-enabled) && featureSigned j) (fld (feature "feature_sign" i j) 1 (v .feature-sign) ∷ []))
+    ∷ fldIf (flag (v .feature-enabled)) (feature "feature_value" i j) (featureBits j) (v .feature-value)
+    ∷ fldIf (flag (v .feature-enabled) && featureSigned j) (feature "feature_sign" i j) 1 (v .feature-sign)
+    ∷ []
 
-unfoldable pub FeatureLacks : ℕ → FeatureValues → Type 0
-FeatureLacks j v = Coded (flag (v .feature-enabled)) (v .feature-value) × Coded (flag (v .feature-enabled) && featureSigned j) (v .feature-sign)
+-- record: unsigned before the sign, and 0 where the feature is disabled
+abbrev pub enabledOf : FeatureValues → Bool
+enabledOf v = flag (v .feature-enabled)
+
+abbrev pub dataValue : FeatureValues → ℤ
+dataValue v = signed (v .feature-value) (flag (v .feature-sign))
 
 -- reading
+abbrev pub noFeature : FeatureValues
+noFeature = record { feature-enabled = 0; feature-value = 0; feature-sign = 0 }
+
 unfoldable pub readFeature : ℕ → ℕ → Reader FeatureValues
 readFeature i j = do
   e ← field (feature "feature_enabled" i j) 1
@@ -52,11 +58,10 @@ readFeature i j = do
   g ← fieldIf (flag e && featureSigned j) (feature "feature_sign" i j) 1
   give (record { feature-enabled = e; feature-value = m; feature-sign = g })
 
--- record: unsigned before the sign, and 0 where the feature is disabled
-unfoldable pub featureOf : FeatureValues → Feature
-featureOf v = record { enabled = flag (v .feature-enabled); value = signed (v .feature-value) (flag (v .feature-sign)) }
-
 -- the code's answer
+unfoldable pub featureOf : FeatureValues → Feature
+featureOf v = record { enabled = enabledOf v; value = dataValue v }
+
 abbrev pub viewFeature : FeatureRead → Got Feature
 viewFeature (Value a c) = got a (c .at)
 viewFeature Short = refused PastEnd

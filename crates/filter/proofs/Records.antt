@@ -1,7 +1,7 @@
 -- The records that the code makes are those of the values.
 -- Assumes nothing.
 use Prim.Native.Nat.{ℕ}
-use mathlib.Core.Path.{_≡_}
+use mathlib.Core.Path.{_≡_, refl}
 use mathlib.Core.List.{List}
 use native.Mathlib.Omega.{arith}
 use lib.Dec.{T, eqb, leb, leb→le, le→leb}
@@ -16,8 +16,11 @@ use Rattle.bits.specs.Read.{readBits}
 use Rattle.bits.specs.Reader.{got}
 use Rattle.bits.proofs.Steps.{value-lt}
 use Rattle.settings.specs.declared.loop_filter.LoopFilterParams.{LoopFilterParams}
-use Rattle.loop_deltas.specs.LoopDeltas.{LoopDeltasValues, noLoopDeltas, withFlags, loopDeltasOf}
+use Rattle.loop_deltas.specs.LoopDeltas.{LoopDeltasValues, noLoopDeltas, withFlags, loopDeltasOf, withDeltas, movedRefs, movedModes, moved, refDeltasOf, modeDeltasOf}
 use Rattle.filter.specs.LoopFilter.{loopFilterOf}
+use mathlib.Core.Bool.{Bool, true, false}
+use Rattle.bits.specs.Syntax.{flag}
+use Rattle.coded.specs.Delta.{deltaOf}
 
 -- a value of at most 8 bits
 pub byte-fits : (s : List ℕ) (p n : ℕ) (r : Bits) (m : ℕ) (c : Cursor) → r ≡ readBits s p n → r ≡ Value m c → T (leb n 8) → Fits w8 m
@@ -27,8 +30,13 @@ byte-fits s p n r m c e t l = record { fits = omega (arith, value-lt s p n r m c
 module _ (old : LoopFilterParams) (l h e p : ℕ) where
   pub filter-moved : (d : LoopDeltasValues) → e ≡ 1
       → got (loopDeltasOf (withFlags old l h (eqb e 1) (old .«delta_update»)) d) p ≡ got (loopFilterOf old (record { level = l; sharpness = h; delta-enabled = e; deltas = d })) p
-  unfolding loopFilterOf
-  filter-moved d ee = rw (eq-eqb e 1 ee)
+  unfolding loopFilterOf loopDeltasOf withDeltas movedRefs movedModes moved refDeltasOf modeDeltasOf deltaOf
+  filter-moved d ee = go (flag (d .delta-update)) refl
+    where
+      go : (b : Bool) → flag (d .delta-update) ≡ b
+          → got (loopDeltasOf (withFlags old l h (eqb e 1) (old .«delta_update»)) d) p ≡ got (loopFilterOf old (record { level = l; sharpness = h; delta-enabled = e; deltas = d })) p
+      go true u = rw (eq-eqb e 1 ee, u)
+      go false u = rw (eq-eqb e 1 ee, u)
 
   pub filter-plain : (e ≡ 1 → ⊥) → got (withFlags old l h (eqb e 1) (old .«delta_update»)) p ≡ got (loopFilterOf old (record { level = l; sharpness = h; delta-enabled = e; deltas = noLoopDeltas })) p
   unfolding loopFilterOf

@@ -1,4 +1,4 @@
--- The header record of a frame's parts and its length.
+-- The header record of a frame's parts and its length, as the code puts it together.
 -- Assumes nothing.
 use Prim.Native.Nat.{ℕ, _+_, _/_, min}
 use mathlib.Core.Bool.{Bool, false, _||_}
@@ -14,22 +14,23 @@ use Rattle.lead.specs.declared.Lead.{Lead}
 use Rattle.tail.specs.declared.Settings.{Settings}
 use Rattle.tail.specs.declared.Closing.{Closing}
 
--- an intra or error-resilient frame
-abbrev pub independent : Lead → Bool
-independent l = l .traits .key || (l .shot .kind .«intra_only» || l .traits .«error_resilient_mode»)
-
+-- record
 abbrev pub frameTypeOf : Bool → FrameType
 frameTypeOf key = pick key KeyFrame InterFrame
+
+-- bits in whole bytes
+abbrev pub lengthOf : ℕ → ℕ
+lengthOf n = (n + 7) / 8
+
+-- the code's answer: an intra or error-resilient frame
+abbrev pub independent : Lead → Bool
+independent l = l .traits .key || (l .shot .kind .«intra_only» || l .traits .«error_resilient_mode»)
 
 -- sign biases: INTRA has none; kept from the source, an independent frame clears them all
 abbrev pub signBiases : Lead → List ℕ
 signBiases l =
     pick (independent l) (replicate 4 0)
     (0 ∷ l .shot .picture .sources .refs .last .«sign_bias» ∷ l .shot .picture .sources .refs .golden .«sign_bias» ∷ l .shot .picture .sources .refs .altref .«sign_bias» ∷ [])
-
--- bits in whole bytes
-abbrev pub lengthOf : ℕ → ℕ
-lengthOf n = (n + 7) / 8
 
 -- a length, as far as 16 bits hold it
 abbrev pub cutLength : ℕ → ℕ

@@ -10,7 +10,7 @@ use Rattle.slots.specs.Slots.{refreshed}
 use Rattle.lead.specs.declared.Lead.{Lead}
 use Rattle.tail.specs.declared.Settings.{Settings}
 
--- an intra-only frame of profile 0 leaves the remembered range untouched
+-- the code's answer: an intra-only frame of profile 0 leaves the remembered range untouched
 abbrev pub keepsRange : ℕ → Lead → Bool
 keepsRange profile l = eqb profile 0 && l .shot .kind .«intra_only»
 

@@ -3,35 +3,44 @@
 use Prim.Native.Nat.{ℕ, _≤_}
 use mathlib.Core.Path.{refl}
 use mathlib.Core.Bool.{not}
-use mathlib.Core.List.{List}
+use mathlib.Core.List.{List, _++_}
 use native.Mathlib.Omega.{arith}
-use Rattle.bits.specs.Syntax.{optional, Given, size}
+use Rattle.bits.specs.Syntax.{optional, size, Ranged, bare}
 use Rattle.bits.specs.Law.{Any, Reads}
 use Rattle.bits.proofs.Laws.{then, last, next-if, done, ends, respelt}
-use Rattle.bits.proofs.Fields.{size-append, size-optional}
+use Rattle.bits.proofs.Fields.{size-append, size-optional, bare-join}
 use Rattle.settings.specs.declared.size.FrameSize.{FrameSize}
 use Rattle.start.proofs.Laws.{opening-reads, opening-size}
-use Rattle.lead.proofs.Laws.{lead-reads, lead-size}
-use Rattle.tail.proofs.Laws.{settings-reads, settings-size, closing-reads, closing-size}
-use Rattle.header.specs.Frame.{FrameValues, noFrame, frameWidth, frameFields, FrameLacks, readFrame}
-use Rattle.header.specs.Header.{HeaderValues, showsExisting, profileOf, headerFields, HeaderLacks, readHeader}
+use Rattle.lead.proofs.Laws.{lead-reads, lead-size, lead-nil}
+use Rattle.tail.proofs.Laws.{settings-reads, settings-size, closing-reads, closing-size, settings-nil, closing-nil}
+use Rattle.header.specs.Frame.{FrameValues, noFrame, frameWidth, frameFields, readFrame}
+use Rattle.header.specs.Header.{HeaderValues, showsExisting, profileOf, headerFields, readHeader}
+use Rattle.lead.specs.Lead.{noLead, leadFields}
+use Rattle.tail.specs.Settings.{noSettings, settingsFields}
+use Rattle.tail.specs.Closing.{noClosing, closingFields}
 
-pub frame-reads : (slots : List FrameSize) (profile : ℕ) → Reads Any (FrameLacks slots profile) (frameFields slots profile) (readFrame slots profile)
-unfolding frameFields FrameLacks readFrame
+pub frame-reads : (slots : List FrameSize) (profile : ℕ) → Reads Any (frameFields slots profile) (readFrame slots profile)
+unfolding frameFields readFrame
 frame-reads slots profile =
     then (λ (v : FrameValues). v .lead) (lead-reads profile) λ l.
     then (λ (v : FrameValues). v .settings) settings-reads λ g.
-    respelt (λ v k. rw (k .0 .1)) (λ v k y. rw (k .0 .1) y) (λ v k y. rw (k .0 .1) at y)
+    respelt (λ v k. rw (k .0 .1))
     (last (λ (v : FrameValues). v .closing) (closing-reads (frameWidth slots l)) (λ a. (search)) (λ a. refl) (λ b k. rw (← (k .1), ← (k .0 .1))))
 
-pub header-reads : (slots : List FrameSize) → Reads Any (HeaderLacks slots) (headerFields slots) (readHeader slots)
-unfolding headerFields HeaderLacks readHeader
+frame-nil : (slots : List FrameSize) (profile : ℕ) → Ranged (bare (frameFields slots profile noFrame))
+unfolding frameFields
+frame-nil slots profile =
+    let width = frameWidth slots noLead in
+    bare-join (leadFields profile noLead) (settingsFields noSettings ++ closingFields width noClosing) (lead-nil profile)
+    (bare-join (settingsFields noSettings) (closingFields width noClosing) settings-nil (closing-nil width))
+
+pub header-reads : (slots : List FrameSize) → Reads Any (headerFields slots) (readHeader slots)
+unfolding headerFields readHeader
 header-reads slots =
     then (λ (v : HeaderValues). v .opening) opening-reads λ o.
-    respelt {Y = λ v. Given (not (showsExisting o)) (FrameLacks slots (profileOf o)) noFrame (v .frame)} {f = λ v. optional (not (showsExisting o)) (frameFields slots (profileOf o) (v .frame))}
-    (λ v k. rw (k .1)) (λ v k y. rw (k .1) y) (λ v k y. rw (k .1) at y)
-    (ends (next-if (not (showsExisting o)) (λ v. not (showsExisting o)) (λ v k. refl) noFrame (λ (v : HeaderValues). v .frame) (frame-reads slots (profileOf o)) λ f.
-    done _ (search) tt (λ b k y. rw (← (k .1), ← (k .0 .1)))))
+    respelt {f = λ v. optional (not (showsExisting o)) (frameFields slots (profileOf o) (v .frame))} (λ v k. rw (k .1))
+    (ends (next-if (not (showsExisting o)) (λ v. not (showsExisting o)) (λ v k. refl) noFrame (frame-nil slots (profileOf o)) (λ (v : HeaderValues). v .frame) (frame-reads slots (profileOf o)) λ f.
+    done _ (search) (λ b k. rw (← (k .1), ← (k .0 .1)))))
 
 pub frame-size : (slots : List FrameSize) (profile : ℕ) (v : FrameValues) → size (frameFields slots profile v) ≤ 854
 unfolding frameFields

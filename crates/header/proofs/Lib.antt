@@ -1,4 +1,5 @@
 pub mod Laws
+pub mod Record
 pub mod Outcomes
 pub mod Parts
 pub mod Whole

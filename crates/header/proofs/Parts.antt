@@ -33,9 +33,9 @@ use Rattle.frame_header.specs.Record.{independent, cutLength, frameHeader}
 use Rattle.frame_state.specs.State.{frameState}
 use Rattle.header.specs.declared.HeaderRead.{HeaderRead}
 use Rattle.header.specs.Header.{showsExisting, profileOf}
-use Rattle.header.specs.Record.{rememberedColor, shownHeader}
+use Rattle.header.specs.Record.{rememberedColor}
 use Rattle.header.specs.Answer.{accepted, refusedWith, outcome, parsed}
-use Rattle.header.specs.Parts.{widthOf, finished, settled, framed}
+use Rattle.header.specs.Parts.{widthOf, finished, settled, framed, shownHeader}
 use Rattle.header.proofs.Outcomes.{came, came-not}
 
 module _ (st : ReaderState) (profile : ℕ) (s : List ℕ) (p : ℕ) where

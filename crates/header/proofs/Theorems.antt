@@ -10,7 +10,8 @@ use lib.ListN.{length}
 use Rattle.bits.specs.declared.Refusal.{Refusal}
 use Rattle.bits.specs.declared.Refusal.the-variants.{PastEnd}
 use Rattle.bits.specs.Refusal.{Mark, markRefusal}
-use Rattle.bits.specs.Syntax.{flat, size, Ranged, Fits, CutOff, Unmarked}
+use Rattle.bits.specs.Syntax.{flat, size, Ranged}
+use Rattle.bits.specs.Fault.{Fits, CutOff, Unmarked}
 use Rattle.bits.specs.Reader.{Read, read, stopped, over, refused}
 use Rattle.bits.proofs.Begins.{begins}
 use Rattle.bits.proofs.Fields.{length-flat}
@@ -19,10 +20,10 @@ use Rattle.bits.proofs.Told.{past-end-exactly, mark-exactly}
 use Rattle.settings.specs.declared.size.FrameSize.{FrameSize}
 use Rattle.types.specs.declared.state.ReaderState.{ReaderState}
 use Rattle.verdict.specs.declared.Verdict.the-variants.{Accepted, Refused}
-use Rattle.frame_header.specs.Record.{lengthOf, frameHeader}
-use Rattle.header.specs.Header.{HeaderValues, showsExisting, headerFields, HeaderLacks, readHeader}
+use Rattle.frame_header.specs.Record.{lengthOf}
+use Rattle.header.specs.Header.{HeaderValues, showsExisting, headerFields, readHeader}
 use Rattle.header.specs.Spelled.{Spelled}
-use Rattle.header.specs.Record.{shownHeader, headerOf}
+use Rattle.header.specs.Record.{frameOf, headerOf}
 use Rattle.header.specs.State.{stateAfter}
 use Rattle.header.specs.Answer.{accepted, refusedWith, outcome, parsed}
 use Rattle.header.specs.declared.HeaderRead.{HeaderRead}
@@ -32,21 +33,21 @@ module _ (s : List ℕ) (slots : List FrameSize) (v : HeaderValues) where
   short-enough : length (flat (headerFields slots v)) < 2 ^ 64
   short-enough = omega (arith, length-flat (headerFields slots v), header-size slots v)
 
-  fits-spelled : Fits s 0 (headerFields slots v) → HeaderLacks slots v → Spelled slots s v
-  fits-spelled h z = record { lacks = z; ranged = h .ranged; begins = begins s (flat (headerFields slots v)) short-enough .0 (h .stands) }
+  fits-spelled : Fits s 0 (headerFields slots v) → Spelled slots s v
+  fits-spelled h = record { ranged = h .ranged; begins = begins s (flat (headerFields slots v)) short-enough .0 (h .stands) }
 
   spelled-fits : Spelled slots s v → Fits s 0 (headerFields slots v)
   spelled-fits h = record { ranged = h .ranged; stands = begins s (flat (headerFields slots v)) short-enough .1 (h .begins) }
 
 -- never do two sets of field values fit
 pub one-set : (s : List ℕ) (slots : List FrameSize) (v w : HeaderValues) → Spelled slots s v → Spelled slots s w → v ≡ w
-one-set s slots v w h k = unique (header-reads slots) s 0 v w (h .lacks) (k .lacks) (spelled-fits s slots v h) (spelled-fits s slots w k)
+one-set s slots v w h k = unique (header-reads slots) s 0 v w (spelled-fits s slots v h) (spelled-fits s slots w k)
 
 module _ (s : List ℕ) (st : ReaderState) where
   -- the record and the state after are those of the values that fit
   pub accepts : (v : HeaderValues) → Spelled (st .«reference_frame_sz») s v → parsed s st ≡ accepted (headerOf st v) (stateAfter st v)
   unfolding parsed
-  accepts v h = rw (header-reads (st .«reference_frame_sz») .complete s 0 v tt (h .lacks) (spelled-fits s (st .«reference_frame_sz») v h))
+  accepts v h = rw (header-reads (st .«reference_frame_sz») .complete s 0 v tt (spelled-fits s (st .«reference_frame_sz») v h))
 
   -- accepted exactly if the frame's bits begin with a spelling of some field values under the remembered sizes
   pub accepted-exactly : (parsed s st .verdict ≡ Accepted) ↔ ((v : HeaderValues) × Spelled (st .«reference_frame_sz») s v)
@@ -57,7 +58,7 @@ module _ (s : List ℕ) (st : ReaderState) where
           → (v : HeaderValues) × Spelled (st .«reference_frame_sz») s v
       to (read v p) e h =
           let o = header-reads (st .«reference_frame_sz») .sound s 0 v p e in
-          (v, fits-spelled s (st .«reference_frame_sz») v (o .2) (o .1))
+          (v, fits-spelled s (st .«reference_frame_sz») v (o .1))
       to (stopped w) e h = let z : _≡_ {A = ℕ} 0 1 = cc in absurd (omega arith)
 
   -- a refusal has the default header, and the state as it was
@@ -84,7 +85,7 @@ module _ (s : List ℕ) (st : ReaderState) where
 
   -- document 01's 6: the earlier fields are well spelled, and the next one runs past the frame's last byte
   pub six-exactly : (parsed s st .verdict ≡ Refused PastEnd)
-      ↔ ((v : HeaderValues) × HeaderLacks (st .«reference_frame_sz») v × Ranged (headerFields (st .«reference_frame_sz») v) × CutOff s 0 (headerFields (st .«reference_frame_sz») v))
+      ↔ ((v : HeaderValues) × Ranged (headerFields (st .«reference_frame_sz») v) × CutOff s 0 (headerFields (st .«reference_frame_sz») v))
   six-exactly =
       let t = told PastEnd in
       let x = past-end-exactly (header-reads (st .«reference_frame_sz»)) (λ v. v) s 0 in
@@ -92,7 +93,7 @@ module _ (s : List ℕ) (st : ReaderState) where
 
   -- document 01's 4 and 5: the earlier fields are well spelled, and the mark stands in full with another number
   pub mark-said : (k : Mark) → (parsed s st .verdict ≡ Refused (markRefusal k))
-      ↔ ((v : HeaderValues) × HeaderLacks (st .«reference_frame_sz») v × Ranged (headerFields (st .«reference_frame_sz») v) × Unmarked s 0 (headerFields (st .«reference_frame_sz») v) k)
+      ↔ ((v : HeaderValues) × Ranged (headerFields (st .«reference_frame_sz») v) × Unmarked s 0 (headerFields (st .«reference_frame_sz») v) k)
   mark-said k =
       let t = told (markRefusal k) in
       let x = mark-exactly (header-reads (st .«reference_frame_sz»)) (λ v. v) s 0 k in
@@ -100,10 +101,10 @@ module _ (s : List ℕ) (st : ReaderState) where
 
 -- the stated length: 0 for show-existing, and else the spelling's bits in whole bytes
 pub length-shown : (st : ReaderState) (v : HeaderValues) → showsExisting (v .opening) ≡ true → headerOf st v .«uncompressed_header_size_in_bytes» ≡ 0
-unfolding headerOf shownHeader
+unfolding headerOf
 length-shown st v h = rw h
 
 pub length-stated : (st : ReaderState) (v : HeaderValues) → showsExisting (v .opening) ≡ false
     → headerOf st v .«uncompressed_header_size_in_bytes» ≡ lengthOf (size (headerFields (st .«reference_frame_sz») v))
-unfolding headerOf frameHeader
+unfolding headerOf frameOf
 length-stated st v h = rw h

@@ -28,13 +28,14 @@ use Rattle.frame_state.specs.State.{frameState}
 use Rattle.header.specs.declared.HeaderRead.{HeaderRead}
 use Rattle.header.specs.Frame.{FrameValues, noFrame, frameWidth, readFrame}
 use Rattle.header.specs.Header.{HeaderValues, showsExisting, profileOf, headerFields, readHeader}
-use Rattle.header.specs.Record.{rememberedColor, shownHeader, headerOf}
+use Rattle.header.specs.Record.{rememberedColor, headerOf}
 use Rattle.header.specs.State.{stateAfter}
 use Rattle.header.specs.Answer.{accepted, outcome, parsed}
-use Rattle.header.specs.Parts.{widthOf, finished, framed}
+use Rattle.header.specs.Parts.{widthOf, finished, framed, shownHeader}
 use Rattle.header.proofs.Laws.{header-reads, header-size}
 use Rattle.header.proofs.Outcomes.{outcome-bind, outcome-same}
 use Rattle.header.proofs.Parts.{opened}
+use Rattle.header.proofs.Record.{frame-parts, state-parts}
 
 -- the size in the record is the frame's, and the record's independence the values'
 shot-size-same : (profile : ℕ) (key : Bool) (color : Color) (slots : List FrameSize) (v : ShotValues) (i : Bool) → isIntraOnly v ≡ i
@@ -60,7 +61,7 @@ module _ (s : List ℕ) (st : ReaderState) where
   answer v p = accepted (headerOf st v) (stateAfter st v)
 
   length-same : (v : HeaderValues) (t : ℕ) → readHeader slots s 0 ≡ read v t → cutLength t ≡ lengthOf (size (headerFields slots v))
-  length-same v t e = let m = header-reads slots .sound s 0 v t e in omega (arith, m .3, header-size slots v)
+  length-same v t e = let m = header-reads slots .sound s 0 v t e in omega (arith, m .2, header-size slots v)
 
   module _ (o : OpeningValues) (p : ℕ) (eo : readOpening s 0 ≡ read o p) where
     abbrev whole : FrameValues → HeaderValues
@@ -81,7 +82,8 @@ module _ (s : List ℕ) (st : ReaderState) where
       last-same : (c : ClosingValues) (t : ℕ) → readClosing (frameWidth slots l) s r ≡ read c t
           → answer (whole (frame c)) t ≡ accepted (frameHeader (profileOf o) (lead l) (settingsOf (independent (lead l)) (st .lf) (st .seg) g) (closingOf (frameWidth slots l) c) (cutLength t)) (frameState st (profileOf o) (lead l) (settingsOf (independent (lead l)) (st .lf) (st .seg) g))
       unfolding headerOf stateAfter
-      last-same c t ec = rw (h, independent-same (profileOf o) (rememberedColor st) slots l, length-same (whole (frame c)) t (header-read c t ec))
+      last-same c t ec =
+          rw (h, frame-parts st (profileOf o) (frame c), state-parts st (profileOf o) (frame c), independent-same (profileOf o) (rememberedColor st) slots l, length-same (whole (frame c)) t (header-read c t ec))
 
       closing-same : outcome st (λ f n. answer (whole f) n) (bind (readClosing (frameWidth slots l) s r) (λ c t. read (frame c) t))
           ≡ finished st (profileOf o) (lead l) (settingsOf (independent (lead l)) (st .lf) (st .seg) g) s r
@@ -102,7 +104,7 @@ module _ (s : List ℕ) (st : ReaderState) where
     kind-same : (b : Bool) → showsExisting o ≡ b
         → outcome st answer (bind (groupIf (not (showsExisting o)) noFrame (readFrame slots (profileOf o)) s p) (λ f n. read (whole f) n))
         ≡ pick (showsExisting o) (accepted (shownHeader (openingOf o)) st) (framed st (profileOf o) s p)
-    unfolding groupIf headerOf stateAfter
+    unfolding groupIf headerOf stateAfter shownHeader openingOf
     kind-same true h = rw h (rw h)
     kind-same false h = rw h (frame-same h)
 

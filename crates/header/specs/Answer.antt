@@ -13,6 +13,7 @@ use Rattle.header.specs.Record.{headerOf}
 use Rattle.header.specs.State.{stateAfter}
 use Rattle.header.specs.declared.HeaderRead.{HeaderRead}
 
+-- record
 abbrev pub accepted : Header → ReaderState → HeaderRead
 accepted h st = record { verdict = Accepted; header = h; state = st }
 
@@ -20,7 +21,7 @@ accepted h st = record { verdict = Accepted; header = h; state = st }
 abbrev pub refusedWith : ReaderState → Refusal → HeaderRead
 refusedWith st e = record { verdict = Refused e; header = defaultHeader; state = st }
 
--- what a reading comes to: f makes an answer of its value and the place past it
+-- reading: what it comes to: f makes an answer of its value and the place past it
 abbrev pub outcome : {A : Type 0} → ReaderState → (A → ℕ → HeaderRead) → Read A → HeaderRead
 outcome st f (read a p) = f a p
 outcome st f (stopped w) = refusedWith st (w .refusal)

@@ -5,17 +5,14 @@ use mathlib.Core.List.{List, _++_}
 use Rattle.bits.specs.Syntax.{Field}
 use Rattle.bits.specs.Reader.{Reader, give, _>>=_}
 use Rattle.settings.specs.declared.size.FrameSize.{FrameSize}
-use Rattle.lead.specs.Lead.{LeadValues, noLead, leadFields, LeadLacks, readLead, frameSize}
-use Rattle.tail.specs.Settings.{SettingsValues, noSettings, settingsFields, SettingsLacks, readSettings}
-use Rattle.tail.specs.Closing.{ClosingValues, noClosing, closingFields, ClosingLacks, readClosing}
+use Rattle.lead.specs.Lead.{LeadValues, noLead, leadFields, readLead, frameSize}
+use Rattle.tail.specs.Settings.{SettingsValues, noSettings, settingsFields, readSettings}
+use Rattle.tail.specs.Closing.{ClosingValues, noClosing, closingFields, readClosing}
 
 pub record FrameValues : Type 0 where
   pub lead : LeadValues
   pub settings : SettingsValues
   pub closing : ClosingValues
-
-abbrev pub noFrame : FrameValues
-noFrame = record { lead = noLead; settings = noSettings; closing = noClosing }
 
 -- the frame's width, which the tiles go by
 abbrev pub frameWidth : List FrameSize → LeadValues → ℕ
@@ -26,10 +23,10 @@ unfoldable pub frameFields : List FrameSize → ℕ → FrameValues → List Fie
 frameFields slots profile v =
     leadFields profile (v .lead) ++ (settingsFields (v .settings) ++ closingFields (frameWidth slots (v .lead)) (v .closing))
 
-unfoldable pub FrameLacks : List FrameSize → ℕ → FrameValues → Type 0
-FrameLacks slots profile v = LeadLacks profile (v .lead) × (SettingsLacks (v .settings) × ClosingLacks (frameWidth slots (v .lead)) (v .closing))
-
 -- reading
+abbrev pub noFrame : FrameValues
+noFrame = record { lead = noLead; settings = noSettings; closing = noClosing }
+
 unfoldable pub readFrame : List FrameSize → ℕ → Reader FrameValues
 readFrame slots profile = do
   l ← readLead profile

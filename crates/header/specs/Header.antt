@@ -3,12 +3,12 @@
 use Prim.Native.Nat.{ℕ}
 use mathlib.Core.Bool.{Bool, not}
 use mathlib.Core.List.{List, _++_}
-use Rattle.bits.specs.Syntax.{Field, flag, optional, Given}
+use Rattle.bits.specs.Syntax.{Field, flag, optional}
 use Rattle.bits.specs.Reader.{Reader, give, _>>=_, groupIf}
 use Rattle.settings.specs.declared.size.FrameSize.{FrameSize}
 use Rattle.start.specs.Profile.{profileNumber}
-use Rattle.start.specs.Opening.{OpeningValues, openingFields, OpeningLacks, readOpening}
-use Rattle.header.specs.Frame.{FrameValues, noFrame, frameFields, FrameLacks, readFrame}
+use Rattle.start.specs.Opening.{OpeningValues, openingFields, readOpening}
+use Rattle.header.specs.Frame.{FrameValues, noFrame, frameFields, readFrame}
 
 pub record HeaderValues : Type 0 where
   pub opening : OpeningValues
@@ -24,10 +24,6 @@ profileOf o = profileNumber (o .profile)
 -- spelling
 unfoldable pub headerFields : List FrameSize → HeaderValues → List Field
 headerFields slots v = openingFields (v .opening) ++ optional (not (showsExisting (v .opening))) (frameFields slots (profileOf (v .opening)) (v .frame))
-
--- a field that its spelling lacks is 0
-unfoldable pub HeaderLacks : List FrameSize → HeaderValues → Type 0
-HeaderLacks slots v = OpeningLacks (v .opening) × Given (not (showsExisting (v .opening))) (FrameLacks slots (profileOf (v .opening))) noFrame (v .frame)
 
 -- reading
 unfoldable pub readHeader : List FrameSize → Reader HeaderValues

@@ -13,6 +13,14 @@ use Rattle.frame_state.specs.State.{frameState}
 use Rattle.header.specs.declared.HeaderRead.{HeaderRead}
 use Rattle.header.specs.Record.{rememberedColor}
 use Rattle.header.specs.Answer.{accepted, outcome}
+use Rattle.types.specs.declared.header.Header.{Header}
+use Rattle.types.specs.Header.{showingHeader}
+use Rattle.enums.specs.Profile.{profileOf as profileNamed}
+use Rattle.start.specs.declared.Opening.{Opening}
+
+-- the code's answer: show-existing, from the opening
+unfoldable pub shownHeader : Opening → Header
+shownHeader o = showingHeader (profileNamed (o .profile)) (o .«frame_to_show_map_idx»)
 
 abbrev pub widthOf : Lead → ℕ
 widthOf l = l .shot .picture .sizes .frame .width

@@ -6,9 +6,9 @@ use Rattle.bits.specs.Reader.{Reader, give, _>>=_}
 use Rattle.settings.specs.declared.size.FrameSize.{FrameSize}
 use Rattle.color.specs.declared.Color.{Color}
 use Rattle.refs.specs.Refs.{refsOf}
-use Rattle.size_with_refs.specs.SizeWithRefs.{SizeWithRefsValues, noSizeWithRefs, sizeWithRefsFields, SizeWithRefsLacks, readSizeWithRefs, sizeWithRefsOf}
+use Rattle.size_with_refs.specs.SizeWithRefs.{SizeWithRefsValues, noSizeWithRefs, sizeWithRefsFields, readSizeWithRefs, sizeWithRefsOf}
 use Rattle.refs.specs.Sources.{SourcesValues, noSources, sourcesFields, readSources, sourcesOf}
-use Rattle.motion.specs.Motion.{MotionValues, noMotion, motionFields, MotionLacks, readMotion, motionOf}
+use Rattle.motion.specs.Motion.{MotionValues, noMotion, motionFields, readMotion, motionOf}
 use Rattle.picture.specs.declared.Picture.{Picture}
 
 pub record InterValues : Type 0 where
@@ -16,17 +16,14 @@ pub record InterValues : Type 0 where
   pub sizes : SizeWithRefsValues
   pub motion : MotionValues
 
-abbrev pub noInter : InterValues
-noInter = record { sources = noSources; sizes = noSizeWithRefs; motion = noMotion }
-
 -- spelling
 unfoldable pub interFields : InterValues → List Field
 interFields v = sourcesFields (v .sources) ++ (sizeWithRefsFields (v .sizes) ++ motionFields (v .motion))
 
-unfoldable pub InterLacks : InterValues → Type 0
-InterLacks v = SizeWithRefsLacks (v .sizes) × MotionLacks (v .motion)
-
 -- reading
+abbrev pub noInter : InterValues
+noInter = record { sources = noSources; sizes = noSizeWithRefs; motion = noMotion }
+
 unfoldable pub readInter : Reader InterValues
 readInter = do
   x ← readSources
@@ -34,7 +31,7 @@ readInter = do
   m ← readMotion
   give (record { sources = x; sizes = z; motion = m })
 
--- record, from the remembered colour and sizes
+-- the code's answer, from the remembered colour and sizes
 unfoldable pub interOf : Color → List FrameSize → InterValues → Picture
 interOf color slots v =
     record {

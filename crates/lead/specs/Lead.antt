@@ -8,9 +8,9 @@ use Rattle.bits.specs.Syntax.{Field, flag}
 use Rattle.bits.specs.Reader.{Got, got, refused, Reader, give, _>>=_}
 use Rattle.settings.specs.declared.size.FrameSize.{FrameSize}
 use Rattle.traits.specs.Traits.{TraitsValues, noTraits, traitsFields, readTraits, traitsOf}
-use Rattle.traits.specs.Context.{ContextValues, noContext, contextFields, ContextLacks, readContext, contextOf}
+use Rattle.traits.specs.Context.{ContextValues, noContext, contextFields, readContext, contextOf}
 use Rattle.color.specs.declared.Color.{Color}
-use Rattle.lead.specs.Shot.{ShotValues, noShot, isIntraOnly, shotFields, ShotLacks, readShot, shotSize, shotOf}
+use Rattle.lead.specs.Shot.{ShotValues, noShot, isIntraOnly, shotFields, readShot, shotSize, shotOf}
 use Rattle.lead.specs.declared.Lead.{Lead}
 use Rattle.lead.specs.declared.LeadRead.{LeadRead}
 use Rattle.lead.specs.declared.LeadRead.the-variants.{Value, Refused}
@@ -19,9 +19,6 @@ pub record LeadValues : Type 0 where
   pub traits : TraitsValues
   pub shot : ShotValues
   pub context : ContextValues
-
-abbrev pub noLead : LeadValues
-noLead = record { traits = noTraits; shot = noShot; context = noContext }
 
 -- a key frame has type 0
 abbrev pub isKey : TraitsValues → Bool
@@ -40,20 +37,7 @@ leadFields profile v =
     ++ (shotFields profile (isKey (v .traits)) (isShown (v .traits)) (isResilient (v .traits)) (v .shot)
     ++ contextFields (isResilient (v .traits)) (v .context))
 
-unfoldable pub LeadLacks : ℕ → LeadValues → Type 0
-LeadLacks profile v =
-    ShotLacks profile (isKey (v .traits)) (isShown (v .traits)) (isResilient (v .traits)) (v .shot)
-    × ContextLacks (isResilient (v .traits)) (v .context)
-
--- reading
-unfoldable pub readLead : ℕ → Reader LeadValues
-readLead profile = do
-  t ← readTraits
-  h ← readShot profile (isKey t) (isShown t) (isResilient t)
-  x ← readContext (isResilient t)
-  give (record { traits = t; shot = h; context = x })
-
--- the frame's size, from the remembered sizes
+-- record: the frame's size, from the remembered sizes
 abbrev pub frameSize : List FrameSize → LeadValues → FrameSize
 frameSize slots v = shotSize (isKey (v .traits)) slots (v .shot)
 
@@ -61,7 +45,18 @@ frameSize slots v = shotSize (isKey (v .traits)) slots (v .shot)
 abbrev pub isIndependent : LeadValues → Bool
 isIndependent v = isKey (v .traits) || (isIntraOnly (v .shot) || isResilient (v .traits))
 
--- record, from the remembered colour and sizes
+-- reading
+abbrev pub noLead : LeadValues
+noLead = record { traits = noTraits; shot = noShot; context = noContext }
+
+unfoldable pub readLead : ℕ → Reader LeadValues
+readLead profile = do
+  t ← readTraits
+  h ← readShot profile (isKey t) (isShown t) (isResilient t)
+  x ← readContext (isResilient t)
+  give (record { traits = t; shot = h; context = x })
+
+-- the code's answer, from the remembered colour and sizes
 unfoldable pub leadOf : ℕ → Color → List FrameSize → LeadValues → Lead
 leadOf profile color slots v =
     record {
@@ -70,7 +65,6 @@ leadOf profile color slots v =
       context = contextOf (isResilient (v .traits)) (v .context);
     }
 
--- the code's answer
 abbrev pub viewLead : LeadRead → Got Lead
 viewLead (Value a c) = got a (c .at)
 viewLead (Refused e) = refused e

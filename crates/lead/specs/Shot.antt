@@ -3,19 +3,19 @@
 use Prim.Native.Nat.{ℕ}
 use mathlib.Core.Bool.{Bool, not, _&&_}
 use mathlib.Core.List.{List, _++_}
-use Rattle.bits.specs.Syntax.{Field, flag, optional, Given}
+use Rattle.bits.specs.Syntax.{Field, flag, optional}
 use Rattle.bits.specs.Reader.{Got, got, refused, pick, Reader, give, _>>=_, groupIf}
 use Rattle.settings.specs.declared.size.FrameSize.{FrameSize}
-use Rattle.traits.specs.Kind.{KindValues, noKind, kindFields, KindLacks, readKind, kindOf}
+use Rattle.traits.specs.Kind.{KindValues, noKind, kindFields, readKind, kindOf}
 use Rattle.traits.specs.declared.Kind.{Kind}
 use Rattle.color.specs.declared.Color.{Color}
 use Rattle.sizes.specs.Size.{sizeOf}
 use Rattle.refs.specs.Refs.{refsOf}
 use Rattle.size_with_refs.specs.SizeWithRefs.{foundSize}
 use Rattle.picture.specs.declared.Picture.{Picture}
-use Rattle.picture.specs.Key.{KeyValues, noKey, keyFields, KeyLacks, readKey, keyOf}
-use Rattle.picture.specs.IntraOnly.{IntraOnlyValues, noIntraOnly, intraOnlyFields, IntraOnlyLacks, readIntraOnly, intraOnlyOf}
-use Rattle.inter.specs.Inter.{InterValues, noInter, interFields, InterLacks, readInter, interOf}
+use Rattle.picture.specs.Key.{KeyValues, noKey, keyFields, readKey, keyOf}
+use Rattle.picture.specs.IntraOnly.{IntraOnlyValues, noIntraOnly, intraOnlyFields, readIntraOnly, intraOnlyOf}
+use Rattle.inter.specs.Inter.{InterValues, noInter, interFields, readInter, interOf}
 use Rattle.lead.specs.declared.Shot.{Shot}
 use Rattle.lead.specs.declared.ShotRead.{ShotRead}
 use Rattle.lead.specs.declared.ShotRead.the-variants.{Value, Refused}
@@ -25,9 +25,6 @@ pub record ShotValues : Type 0 where
   pub kind : KindValues
   pub intra-only : IntraOnlyValues
   pub inter : InterValues
-
-abbrev pub noShot : ShotValues
-noShot = record { key = noKey; kind = noKind; intra-only = noIntraOnly; inter = noInter }
 
 abbrev pub isIntraOnly : ShotValues → Bool
 isIntraOnly v = flag (v .kind .intra-only)
@@ -40,14 +37,17 @@ shotFields profile key shown resilient v =
     ++ (optional (isIntraOnly v) (intraOnlyFields profile (v .intra-only))
     ++ optional (not key && not (isIntraOnly v)) (interFields (v .inter))))
 
-unfoldable pub ShotLacks : ℕ → Bool → Bool → Bool → ShotValues → Type 0
-ShotLacks profile key shown resilient v =
-    Given key (KeyLacks profile) noKey (v .key)
-    × (Given (not key) (KindLacks shown resilient) noKind (v .kind)
-    × (Given (isIntraOnly v) (IntraOnlyLacks profile) noIntraOnly (v .intra-only)
-    × Given (not key && not (isIntraOnly v)) InterLacks noInter (v .inter)))
+-- record: the frame's size, from the remembered sizes
+abbrev pub shotSize : Bool → List FrameSize → ShotValues → FrameSize
+shotSize key slots v =
+    pick key (sizeOf (v .key .sizes .size))
+    (pick (isIntraOnly v) (sizeOf (v .intra-only .sizes .size))
+    (foundSize slots (refsOf (v .inter .sources .refs)) (v .inter .sizes)))
 
 -- reading
+abbrev pub noShot : ShotValues
+noShot = record { key = noKey; kind = noKind; intra-only = noIntraOnly; inter = noInter }
+
 unfoldable pub readShot : ℕ → Bool → Bool → Bool → Reader ShotValues
 readShot profile key shown resilient = do
   k ← groupIf key noKey (readKey profile)
@@ -56,14 +56,7 @@ readShot profile key shown resilient = do
   r ← groupIf (not key && not (flag (d .intra-only))) noInter readInter
   give (record { key = k; kind = d; intra-only = i; inter = r })
 
--- the frame's size, from the remembered sizes
-abbrev pub shotSize : Bool → List FrameSize → ShotValues → FrameSize
-shotSize key slots v =
-    pick key (sizeOf (v .key .sizes .size))
-    (pick (isIntraOnly v) (sizeOf (v .intra-only .sizes .size))
-    (foundSize slots (refsOf (v .inter .sources .refs)) (v .inter .sizes)))
-
--- record, from the remembered colour and sizes
+-- the code's answer, from the remembered colour and sizes
 abbrev pub withKind : Kind → Picture → Shot
 withKind kind picture = record { kind = kind; picture = picture }
 
@@ -72,7 +65,6 @@ shotOf profile key color slots v =
     withKind (kindOf (v .kind))
     (pick key (keyOf profile (v .key)) (pick (isIntraOnly v) (intraOnlyOf profile (v .intra-only)) (interOf color slots (v .inter))))
 
--- the code's answer
 abbrev pub viewShot : ShotRead → Got Shot
 viewShot (Value a c) = got a (c .at)
 viewShot (Refused e) = refused e

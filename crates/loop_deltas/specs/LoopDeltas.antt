@@ -6,12 +6,12 @@ use mathlib.Core.List.{List, [], _∷_, _++_}
 use lib.IntN.{ℤ, pos}
 use lib.ListN.{getD}
 use Rattle.bits.specs.Refusal.{the, item}
-use Rattle.bits.specs.Syntax.{Field, fld, flag, optional, Given}
+use Rattle.bits.specs.Syntax.{Field, fld, flag, optional}
 use Rattle.bits.specs.Reader.{Got, got, refused, pick, Reader, give, _>>=_, field, groupIf, viewNext}
-use Rattle.bits.specs.Many.{Times, Each, manyFields, many}
+use Rattle.bits.specs.Many.{Times, times, manyFields, many}
 use Rattle.bits.specs.declared.Refusal.the-variants.{PastEnd}
 use Rattle.coded.specs.declared.Delta.{Delta}
-use Rattle.coded.specs.Delta.{DeltaValues, noDelta, deltaFields, DeltaLacks, readDelta, deltaOf}
+use Rattle.coded.specs.Delta.{DeltaValues, noDelta, deltaFields, readDelta, deltaOf}
 use Rattle.settings.specs.declared.loop_filter.LoopFilterParams.{LoopFilterParams}
 use Rattle.loop_deltas.specs.declared.LoopFilterRead.{LoopFilterRead}
 use Rattle.loop_deltas.specs.declared.RefDeltas.{RefDeltas}
@@ -25,15 +25,6 @@ pub record LoopDeltasValues : Type 0 where
   pub delta-update : ℕ
   pub ref-deltas : Times 4 DeltaValues
   pub mode-deltas : Times 2 DeltaValues
-
-abbrev pub noRefDeltas : Times 4 DeltaValues
-noRefDeltas = (noDelta, (noDelta, (noDelta, (noDelta, tt))))
-
-abbrev pub noModeDeltas : Times 2 DeltaValues
-noModeDeltas = (noDelta, (noDelta, tt))
-
-abbrev pub noLoopDeltas : LoopDeltasValues
-noLoopDeltas = record { delta-update = 0; ref-deltas = noRefDeltas; mode-deltas = noModeDeltas }
 
 -- delta number i: six bits and a sign, behind a flag
 abbrev pub refDelta : ℕ → DeltaValues → List Field
@@ -49,12 +40,16 @@ loopDeltasFields v =
     ∷ (optional (flag (v .delta-update)) (manyFields refDelta 0 4 (v .ref-deltas))
     ++ optional (flag (v .delta-update)) (manyFields modeDelta 0 2 (v .mode-deltas)))
 
-unfoldable pub LoopDeltasLacks : LoopDeltasValues → Type 0
-LoopDeltasLacks v =
-    Given (flag (v .delta-update)) (Each (λ i. DeltaLacks) 0 4) noRefDeltas (v .ref-deltas)
-    × Given (flag (v .delta-update)) (Each (λ i. DeltaLacks) 0 2) noModeDeltas (v .mode-deltas)
-
 -- reading
+abbrev pub noRefDeltas : Times 4 DeltaValues
+noRefDeltas = times 4 noDelta
+
+abbrev pub noModeDeltas : Times 2 DeltaValues
+noModeDeltas = times 2 noDelta
+
+abbrev pub noLoopDeltas : LoopDeltasValues
+noLoopDeltas = record { delta-update = 0; ref-deltas = noRefDeltas; mode-deltas = noModeDeltas }
+
 abbrev pub readRefDelta : ℕ → Reader DeltaValues
 readRefDelta i = readDelta (item "update_ref_delta" i) (item "loop_filter_ref_deltas" i) (item "loop_filter_ref_deltas_sign" i) 6
 
@@ -74,7 +69,7 @@ readLoopDeltas = do
   m ← groupIf (flag u) noModeDeltas readModeDeltas
   give (record { delta-update = u; ref-deltas = r; mode-deltas = m })
 
--- record, from the remembered settings
+-- the code's answer, from the remembered settings
 unfoldable pub refDeltasOf : Times 4 DeltaValues → RefDeltas
 refDeltasOf v = record { intra = deltaOf (v .0); last = deltaOf (v .1 .0); golden = deltaOf (v .1 .1 .0); altref = deltaOf (v .1 .1 .1 .0) }
 
@@ -129,7 +124,6 @@ loopDeltasOf old v =
     (withDeltas old (refDeltasOf (v .ref-deltas)) (modeDeltasOf (v .mode-deltas)))
     (withFlags old (old .level) (old .sharpness) (old .«delta_enabled») false)
 
--- the code's answers
 abbrev pub viewRefDeltas : RefDeltasRead → Got RefDeltas
 viewRefDeltas (Refs a c) = got a (c .at)
 viewRefDeltas NoRefs = refused PastEnd

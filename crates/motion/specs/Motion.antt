@@ -6,7 +6,7 @@ use Rattle.bits.specs.Refusal.{the}
 use Rattle.bits.specs.Syntax.{Field, fld, flag}
 use Rattle.bits.specs.Reader.{Got, got, refused, Reader, give, _>>=_, field}
 use Rattle.bits.specs.declared.Refusal.the-variants.{PastEnd}
-use Rattle.motion.specs.Filter.{FilterValues, noFilter, filterFields, FilterLacks, readFilter, filterOf}
+use Rattle.motion.specs.Filter.{FilterValues, noFilter, filterFields, readFilter, filterOf}
 use Rattle.motion.specs.declared.Motion.{Motion}
 use Rattle.motion.specs.declared.MotionRead.{MotionRead}
 use Rattle.motion.specs.declared.MotionRead.the-variants.{Value, Short}
@@ -15,28 +15,24 @@ pub record MotionValues : Type 0 where
   pub allow-high-precision-mv : ℕ
   pub filter : FilterValues
 
-abbrev pub noMotion : MotionValues
-noMotion = record { allow-high-precision-mv = 0; filter = noFilter }
-
 -- spelling
 unfoldable pub motionFields : MotionValues → List Field
 motionFields v = fld (the "allow_high_precision_mv") 1 (v .allow-high-precision-mv) ∷ filterFields (v .filter)
 
-unfoldable pub MotionLacks : MotionValues → Type 0
-MotionLacks v = FilterLacks (v .filter)
-
 -- reading
+abbrev pub noMotion : MotionValues
+noMotion = record { allow-high-precision-mv = 0; filter = noFilter }
+
 unfoldable pub readMotion : Reader MotionValues
 readMotion = do
   h ← field (the "allow_high_precision_mv") 1
   f ← readFilter
   give (record { allow-high-precision-mv = h; filter = f })
 
--- record
+-- the code's answer
 unfoldable pub motionOf : MotionValues → Motion
 motionOf v = record { «allow_high_precision_mv» = flag (v .allow-high-precision-mv); «interpolation_filter» = filterOf (v .filter) }
 
--- the code's answer
 abbrev pub viewMotion : MotionRead → Got Motion
 viewMotion (Value a c) = got a (c .at)
 viewMotion Short = refused PastEnd

@@ -7,8 +7,8 @@ use Rattle.bits.specs.Syntax.{Field, fld}
 use Rattle.bits.specs.Reader.{Reader, give, _>>=_, field}
 use Rattle.start.specs.Sync.{syncFields, readSync}
 use Rattle.color.specs.Color.{ColorValues, noColor}
-use Rattle.color.specs.Intra.{intraColorFields, IntraColorLacks, readIntraColor, intraColorOf}
-use Rattle.sizes.specs.Sizes.{SizesValues, noSizes, sizesFields, SizesLacks, readSizes, sizesOf}
+use Rattle.color.specs.Intra.{intraColorFields, readIntraColor, intraColorOf}
+use Rattle.sizes.specs.Sizes.{SizesValues, noSizes, sizesFields, readSizes, sizesOf}
 use Rattle.picture.specs.Picture.{intraPicture}
 use Rattle.picture.specs.declared.Picture.{Picture}
 
@@ -18,9 +18,6 @@ pub record IntraOnlyValues : Type 0 where
   pub refresh-frame-flags : ℕ
   pub sizes : SizesValues
 
-abbrev pub noIntraOnly : IntraOnlyValues
-noIntraOnly = record { frame-sync-code = 0; color = noColor; refresh-frame-flags = 0; sizes = noSizes }
-
 -- spelling, for a profile
 unfoldable pub intraOnlyFields : ℕ → IntraOnlyValues → List Field
 intraOnlyFields profile v =
@@ -29,10 +26,10 @@ intraOnlyFields profile v =
     ++ (fld (the "refresh_frame_flags") 8 (v .refresh-frame-flags)
     ∷ sizesFields (v .sizes)))
 
-unfoldable pub IntraOnlyLacks : ℕ → IntraOnlyValues → Type 0
-IntraOnlyLacks profile v = IntraColorLacks profile (v .color) × SizesLacks (v .sizes)
-
 -- reading
+abbrev pub noIntraOnly : IntraOnlyValues
+noIntraOnly = record { frame-sync-code = 0; color = noColor; refresh-frame-flags = 0; sizes = noSizes }
+
 unfoldable pub readIntraOnly : ℕ → Reader IntraOnlyValues
 readIntraOnly profile = do
   n ← readSync
@@ -41,6 +38,6 @@ readIntraOnly profile = do
   z ← readSizes
   give (record { frame-sync-code = n; color = c; refresh-frame-flags = r; sizes = z })
 
--- record
+-- the code's answer
 unfoldable pub intraOnlyOf : ℕ → IntraOnlyValues → Picture
 intraOnlyOf profile v = intraPicture (intraColorOf profile (v .color)) (v .refresh-frame-flags) (sizesOf (v .sizes))

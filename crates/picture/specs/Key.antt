@@ -5,8 +5,8 @@ use mathlib.Core.List.{List, _++_}
 use Rattle.bits.specs.Syntax.{Field}
 use Rattle.bits.specs.Reader.{Reader, give, _>>=_}
 use Rattle.start.specs.Sync.{syncFields, readSync}
-use Rattle.color.specs.Color.{ColorValues, noColor, colorFields, ColorLacks, readColor, colorOf}
-use Rattle.sizes.specs.Sizes.{SizesValues, noSizes, sizesFields, SizesLacks, readSizes, sizesOf}
+use Rattle.color.specs.Color.{ColorValues, noColor, colorFields, readColor, colorOf}
+use Rattle.sizes.specs.Sizes.{SizesValues, noSizes, sizesFields, readSizes, sizesOf}
 use Rattle.picture.specs.Picture.{intraPicture}
 use Rattle.picture.specs.declared.Picture.{Picture}
 
@@ -15,17 +15,14 @@ pub record KeyValues : Type 0 where
   pub color : ColorValues
   pub sizes : SizesValues
 
-abbrev pub noKey : KeyValues
-noKey = record { frame-sync-code = 0; color = noColor; sizes = noSizes }
-
 -- spelling, for a profile
 unfoldable pub keyFields : ℕ → KeyValues → List Field
 keyFields profile v = syncFields (v .frame-sync-code) ++ (colorFields profile (v .color) ++ sizesFields (v .sizes))
 
-unfoldable pub KeyLacks : ℕ → KeyValues → Type 0
-KeyLacks profile v = ColorLacks profile (v .color) × SizesLacks (v .sizes)
-
 -- reading
+abbrev pub noKey : KeyValues
+noKey = record { frame-sync-code = 0; color = noColor; sizes = noSizes }
+
 unfoldable pub readKey : ℕ → Reader KeyValues
 readKey profile = do
   n ← readSync
@@ -33,6 +30,6 @@ readKey profile = do
   z ← readSizes
   give (record { frame-sync-code = n; color = c; sizes = z })
 
--- record
+-- the code's answer
 unfoldable pub keyOf : ℕ → KeyValues → Picture
 keyOf profile v = intraPicture (colorOf profile (v .color)) 255 (sizesOf (v .sizes))

@@ -12,6 +12,7 @@ use Rattle.picture.specs.declared.Picture.{Picture}
 use Rattle.picture.specs.declared.PictureRead.{PictureRead}
 use Rattle.picture.specs.declared.PictureRead.the-variants.{Value, Refused}
 
+-- the code's answer
 abbrev pub noRef : Ref
 noRef = record { idx = 0; «sign_bias» = 0 }
 
@@ -29,7 +30,6 @@ intraPicture color refresh sizes =
       motion = record { «allow_high_precision_mv» = false; «interpolation_filter» = EightTap };
     }
 
--- the code's answer
 abbrev pub viewPicture : PictureRead → Got Picture
 viewPicture (Value a c) = got a (c .at)
 viewPicture (Refused e) = refused e

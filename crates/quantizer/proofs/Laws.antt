@@ -3,25 +3,28 @@
 use Prim.Native.Nat.{ℕ, _≤_}
 use mathlib.Core.Path.{refl}
 use native.Mathlib.Omega.{arith}
-use Rattle.bits.specs.Refusal.{the}
-use Rattle.bits.specs.Syntax.{size}
+use Rattle.bits.specs.Syntax.{size, Ranged, bare}
 use Rattle.bits.specs.Law.{Any, Reads}
 use Rattle.bits.proofs.Fields.{size-append}
-use Rattle.bits.proofs.Laws.{take, then, last}
-use Rattle.coded.specs.Delta.{DeltaValues, DeltaLacks}
+use Rattle.bits.proofs.Laws.{then, take, last}
+use Rattle.coded.specs.Delta.{DeltaValues, deltaFields}
 use Rattle.coded.proofs.Laws.{delta-reads, delta-size}
-use Rattle.quantizer.specs.Quantizer.{QuantizerValues, deltaQ, readDeltaQ, quantizerFields, QuantizerLacks, readQuantizer}
+use Rattle.quantizer.specs.Quantizer.{QuantizerValues, deltaQ, readDeltaQ, quantizerFields, readQuantizer, noQuantizer}
 
-delta-q-reads : (i : ℕ) → Reads Any DeltaLacks (deltaQ i) (readDeltaQ i)
+delta-q-reads : (i : ℕ) → Reads Any (deltaQ i) (readDeltaQ i)
 delta-q-reads i = delta-reads _ _ _ 4
 
-pub quantizer-reads : Reads Any QuantizerLacks quantizerFields readQuantizer
-unfolding quantizerFields QuantizerLacks readQuantizer
+pub quantizer-reads : Reads Any quantizerFields readQuantizer
+unfolding quantizerFields readQuantizer
 quantizer-reads =
     take (λ (v : QuantizerValues). v .base-q-idx) λ b.
     then (λ (v : QuantizerValues). v .delta-q-y-dc) (delta-q-reads 0) λ y.
     then (λ (v : QuantizerValues). v .delta-q-uv-dc) (delta-q-reads 1) λ d.
     last (λ (v : QuantizerValues). v .delta-q-uv-ac) (delta-q-reads 2) (λ a. (search)) (λ a. refl) (λ v k. rw (← (k .1), ← (k .0 .1), ← (k .0 .0 .1)))
+
+pub quantizer-nil : Ranged (bare (quantizerFields noQuantizer))
+unfolding quantizerFields deltaFields
+quantizer-nil = omega arith
 
 delta-q-size : (i : ℕ) (v : DeltaValues) → size (deltaQ i v) ≤ 6
 delta-q-size i v = delta-size _ _ _ 4 v

@@ -10,7 +10,7 @@ use Rattle.bits.specs.Refusal.{the, item}
 use Rattle.bits.specs.Syntax.{Field, fld}
 use Rattle.bits.specs.Reader.{Got, got, refused, Reader, give, _>>=_, field, over}
 use Rattle.bits.specs.declared.Refusal.the-variants.{PastEnd}
-use Rattle.coded.specs.Delta.{DeltaValues, noDelta, deltaFields, DeltaLacks, readDelta, deltaOf}
+use Rattle.coded.specs.Delta.{DeltaValues, noDelta, deltaFields, readDelta, deltaOf}
 use Rattle.settings.specs.declared.quantization.QuantizationParams.{QuantizationParams}
 use Rattle.quantizer.specs.declared.DeltaQRead.{DeltaQRead}
 use Rattle.quantizer.specs.declared.DeltaQRead.the-variants.{Value as Coded, Short as Cut}
@@ -23,33 +23,15 @@ pub record QuantizerValues : Type 0 where
   pub delta-q-uv-dc : DeltaValues
   pub delta-q-uv-ac : DeltaValues
 
-abbrev pub noQuantizer : QuantizerValues
-noQuantizer = record { base-q-idx = 0; delta-q-y-dc = noDelta; delta-q-uv-dc = noDelta; delta-q-uv-ac = noDelta }
-
 -- read_delta_q() number i (VP9 6.2.10): four bits and a sign, behind a flag
 abbrev pub deltaQ : ℕ → DeltaValues → List Field
 deltaQ i = deltaFields (item "delta_coded" i) (item "delta_q" i) (item "delta_q_sign" i) 4
-
-abbrev pub readDeltaQ : ℕ → Reader DeltaValues
-readDeltaQ i = readDelta (item "delta_coded" i) (item "delta_q" i) (item "delta_q_sign" i) 4
 
 -- spelling
 unfoldable pub quantizerFields : QuantizerValues → List Field
 quantizerFields v =
     fld (the "base_q_idx") 8 (v .base-q-idx)
     ∷ (deltaQ 0 (v .delta-q-y-dc) ++ (deltaQ 1 (v .delta-q-uv-dc) ++ deltaQ 2 (v .delta-q-uv-ac)))
-
-unfoldable pub QuantizerLacks : QuantizerValues → Type 0
-QuantizerLacks v = DeltaLacks (v .delta-q-y-dc) × (DeltaLacks (v .delta-q-uv-dc) × DeltaLacks (v .delta-q-uv-ac))
-
--- reading
-unfoldable pub readQuantizer : Reader QuantizerValues
-readQuantizer = do
-  b ← field (the "base_q_idx") 8
-  y ← readDeltaQ 0
-  d ← readDeltaQ 1
-  a ← readDeltaQ 2
-  give (record { base-q-idx = b; delta-q-y-dc = y; delta-q-uv-dc = d; delta-q-uv-ac = a })
 
 -- record: a delta that isn't coded is 0
 unfoldable pub deltaQOf : DeltaValues → ℤ
@@ -64,7 +46,30 @@ quantizerOf v =
       «delta_q_uv_ac» = deltaQOf (v .delta-q-uv-ac);
     }
 
--- the code's answers
+-- VP9's Lossless: the base and the three deltas are 0
+unfoldable pub lossless : QuantizationParams → Bool
+lossless q =
+    eqb (q .«base_q_idx») 0
+    && (eqb (natAbs (q .«delta_q_y_dc»)) 0
+    && (eqb (natAbs (q .«delta_q_uv_dc»)) 0
+    && eqb (natAbs (q .«delta_q_uv_ac»)) 0))
+
+-- reading
+abbrev pub readDeltaQ : ℕ → Reader DeltaValues
+readDeltaQ i = readDelta (item "delta_coded" i) (item "delta_q" i) (item "delta_q_sign" i) 4
+
+abbrev pub noQuantizer : QuantizerValues
+noQuantizer = record { base-q-idx = 0; delta-q-y-dc = noDelta; delta-q-uv-dc = noDelta; delta-q-uv-ac = noDelta }
+
+unfoldable pub readQuantizer : Reader QuantizerValues
+readQuantizer = do
+  b ← field (the "base_q_idx") 8
+  y ← readDeltaQ 0
+  d ← readDeltaQ 1
+  a ← readDeltaQ 2
+  give (record { base-q-idx = b; delta-q-y-dc = y; delta-q-uv-dc = d; delta-q-uv-ac = a })
+
+-- the code's answer
 abbrev pub viewDeltaQ : DeltaQRead → Got ℤ
 viewDeltaQ (Coded z c) = got z (c .at)
 viewDeltaQ Cut = refused PastEnd
@@ -76,11 +81,3 @@ DeltaQIs s p r = (i : ℕ) → viewDeltaQ r ≡ over deltaQOf (readDeltaQ i s p)
 abbrev pub viewQuantizer : QuantizerRead → Got QuantizationParams
 viewQuantizer (Value a c) = got a (c .at)
 viewQuantizer Short = refused PastEnd
-
--- VP9's Lossless: the base and the three deltas are 0
-unfoldable pub lossless : QuantizationParams → Bool
-lossless q =
-    eqb (q .«base_q_idx») 0
-    && (eqb (natAbs (q .«delta_q_y_dc»)) 0
-    && (eqb (natAbs (q .«delta_q_uv_dc»)) 0
-    && eqb (natAbs (q .«delta_q_uv_ac»)) 0))

@@ -3,33 +3,37 @@
 use Prim.Native.Nat.{ℕ, _≤_}
 use mathlib.Core.Path.{refl}
 use native.Mathlib.Omega.{arith}
-use Rattle.bits.specs.Refusal.{the}
-use Rattle.bits.specs.Syntax.{size}
+use Rattle.bits.specs.Syntax.{size, Ranged, bare}
 use Rattle.bits.specs.Law.{Any, Reads}
 use Rattle.bits.proofs.Fields.{size-append}
-use Rattle.bits.proofs.Laws.{take, next, last, done}
+use Rattle.bits.proofs.Laws.{then, take, last, done}
 use Rattle.refs.specs.Refs.{RefValues, refFields, readRef, RefsValues, refsFields, readRefs}
-use Rattle.refs.specs.Sources.{SourcesValues, sourcesFields, readSources}
+use Rattle.refs.specs.Sources.{SourcesValues, sourcesFields, readSources, noSources}
 
-pub ref-reads : (i : ℕ) → Reads Any Any (refFields i) (readRef i)
+pub ref-reads : (i : ℕ) → Reads Any (refFields i) (readRef i)
 unfolding refFields readRef
 ref-reads i =
     take (λ (v : RefValues). v .ref-frame-idx) λ n.
     take (λ (v : RefValues). v .ref-frame-sign-bias) λ b.
-    done _ (search) tt (λ b k y. rw (← (k .1), ← (k .0 .1)))
+    done _ (search) (λ b k. rw (← (k .1), ← (k .0 .1)))
 
-pub refs-reads : Reads Any Any refsFields readRefs
+pub refs-reads : Reads Any refsFields readRefs
 unfolding refsFields readRefs
 refs-reads =
-    next (λ (v : RefsValues). v .last) (ref-reads 0) λ l.
-    next (λ (v : RefsValues). v .golden) (ref-reads 1) λ g.
+    then (λ (v : RefsValues). v .last) (ref-reads 0) λ l.
+    then (λ (v : RefsValues). v .golden) (ref-reads 1) λ g.
     last (λ (v : RefsValues). v .altref) (ref-reads 2) (λ a. ((tt, refl), refl)) (λ a. refl) (λ b k. rw (← (k .1), ← (k .0 .1)))
 
-pub sources-reads : Reads Any Any sourcesFields readSources
+pub sources-reads : Reads Any sourcesFields readSources
 unfolding sourcesFields readSources
 sources-reads =
     take (λ (v : SourcesValues). v .refresh-frame-flags) λ r.
     last (λ (v : SourcesValues). v .refs) refs-reads (λ a. (search)) (λ a. refl) (λ b k. rw (← (k .1)))
+
+-- all of them 0
+pub sources-nil : Ranged (bare (sourcesFields noSources))
+unfolding sourcesFields refsFields refFields
+sources-nil = omega arith
 
 -- how many bits they have at most
 pub ref-size : (i : ℕ) (v : RefValues) → size (refFields i v) ≤ 4

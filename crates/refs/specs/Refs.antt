@@ -23,12 +23,6 @@ pub record RefsValues : Type 0 where
   pub golden : RefValues
   pub altref : RefValues
 
-abbrev pub noRef : RefValues
-noRef = record { ref-frame-idx = 0; ref-frame-sign-bias = 0 }
-
-abbrev pub noRefs : RefsValues
-noRefs = record { last = noRef; golden = noRef; altref = noRef }
-
 -- spelling of reference i
 unfoldable pub refFields : ℕ → RefValues → List Field
 refFields i v = fld (item "ref_frame_idx" i) 3 (v .ref-frame-idx) ∷ fld (item "ref_frame_sign_bias" i) 1 (v .ref-frame-sign-bias) ∷ []
@@ -36,7 +30,20 @@ refFields i v = fld (item "ref_frame_idx" i) 3 (v .ref-frame-idx) ∷ fld (item 
 unfoldable pub refsFields : RefsValues → List Field
 refsFields v = refFields 0 (v .last) ++ (refFields 1 (v .golden) ++ refFields 2 (v .altref))
 
+-- record
+unfoldable pub refOf : RefValues → Ref
+refOf v = record { idx = v .ref-frame-idx; «sign_bias» = v .ref-frame-sign-bias }
+
+unfoldable pub refsOf : RefsValues → Refs
+refsOf v = record { last = refOf (v .last); golden = refOf (v .golden); altref = refOf (v .altref) }
+
 -- reading
+abbrev pub noRef : RefValues
+noRef = record { ref-frame-idx = 0; ref-frame-sign-bias = 0 }
+
+abbrev pub noRefs : RefsValues
+noRefs = record { last = noRef; golden = noRef; altref = noRef }
+
 unfoldable pub readRef : ℕ → Reader RefValues
 readRef i = do
   n ← field (item "ref_frame_idx" i) 3
@@ -50,14 +57,7 @@ readRefs = do
   a ← readRef 2
   give (record { last = l; golden = g; altref = a })
 
--- record
-unfoldable pub refOf : RefValues → Ref
-refOf v = record { idx = v .ref-frame-idx; «sign_bias» = v .ref-frame-sign-bias }
-
-unfoldable pub refsOf : RefsValues → Refs
-refsOf v = record { last = refOf (v .last); golden = refOf (v .golden); altref = refOf (v .altref) }
-
--- the code's answers
+-- the code's answer
 abbrev pub viewRef : RefRead → Got Ref
 viewRef (Value a c) = got a (c .at)
 viewRef Short = refused PastEnd

@@ -15,25 +15,24 @@ pub record SourcesValues : Type 0 where
   pub refresh-frame-flags : ℕ
   pub refs : RefsValues
 
-abbrev pub noSources : SourcesValues
-noSources = record { refresh-frame-flags = 0; refs = noRefs }
-
 -- spelling
 unfoldable pub sourcesFields : SourcesValues → List Field
 sourcesFields v = fld (the "refresh_frame_flags") 8 (v .refresh-frame-flags) ∷ refsFields (v .refs)
 
 -- reading
+abbrev pub noSources : SourcesValues
+noSources = record { refresh-frame-flags = 0; refs = noRefs }
+
 unfoldable pub readSources : Reader SourcesValues
 readSources = do
   r ← field (the "refresh_frame_flags") 8
   x ← readRefs
   give (record { refresh-frame-flags = r; refs = x })
 
--- record
+-- the code's answer
 unfoldable pub sourcesOf : SourcesValues → Sources
 sourcesOf v = record { «refresh_frame_flags» = v .refresh-frame-flags; refs = refsOf (v .refs) }
 
--- the code's answer
 abbrev pub viewSources : SourcesRead → Got Sources
 viewSources (Value a c) = got a (c .at)
 viewSources Short = refused PastEnd

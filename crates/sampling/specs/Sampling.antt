@@ -2,10 +2,10 @@
 -- Assumes nothing.
 use Prim.Native.Nat.{ℕ, _%_}
 use mathlib.Core.Bool.{Bool, true, false, not, _&&_}
-use mathlib.Core.List.{List, [], _∷_, _++_}
+use mathlib.Core.List.{List, [], _∷_}
 use lib.Dec.{eqb}
 use Rattle.bits.specs.Refusal.{the}
-use Rattle.bits.specs.Syntax.{Field, fld, flag, optional, Coded}
+use Rattle.bits.specs.Syntax.{Field, flag, fldIf}
 use Rattle.bits.specs.Reader.{Got, got, refused, pick, Reader, give, _>>=_, fieldIf}
 use Rattle.bits.specs.declared.Refusal.the-variants.{PastEnd}
 use Rattle.enums.specs.ColorRange.{colorRangeOf}
@@ -20,9 +20,6 @@ pub record SamplingValues : Type 0 where
   pub subsampling-x : ℕ
   pub subsampling-y : ℕ
   pub reserved-zero : ℕ
-
-abbrev pub noSampling : SamplingValues
-noSampling = record { color-range = 0; subsampling-x = 0; subsampling-y = 0; reserved-zero = 0 }
 
 -- colour space 7 is RGB, and has neither range nor subsampling
 abbrev pub srgb : ℕ → Bool
@@ -39,26 +36,11 @@ chroma profile space = not (srgb space) && sampled profile
 -- spelling
 unfoldable pub samplingFields : ℕ → ℕ → SamplingValues → List Field
 samplingFields profile space v =
-    optional (not (srgb space)) (fld (the "color_range") 1 (v .color-range) ∷ [])
-    ++ (optional (chroma profile space) (fld (the "subsampling_x") 1 (v .subsampling-x) ∷ [])
-    ++ (optional (chroma profile space) (fld (the "subsampling_y") 1 (v .subsampling-y) ∷ [])
-    ++ optional (sampled profile) (fld (the "reserved_zero") 1 (v .reserved-zero) ∷ [])))
-
-unfoldable pub SamplingLacks : ℕ → ℕ → SamplingValues → Type 0
-SamplingLacks profile space v =
-    Coded (not (srgb space)) (v .color-range)
-    × (Coded (chroma profile space) (v .subsampling-x)
-    × (Coded (chroma profile space) (v .subsampling-y)
-    × Coded (sampled profile) (v .reserved-zero)))
-
--- reading
-unfoldable pub readSampling : ℕ → ℕ → Reader SamplingValues
-readSampling profile space = do
-  r ← fieldIf (not (srgb space)) (the "color_range") 1
-  x ← fieldIf (chroma profile space) (the "subsampling_x") 1
-  y ← fieldIf (chroma profile space) (the "subsampling_y") 1
-  z ← fieldIf (sampled profile) (the "reserved_zero") 1
-  give (record { color-range = r; subsampling-x = x; subsampling-y = y; reserved-zero = z })
+    fldIf (not (srgb space)) (the "color_range") 1 (v .color-range)
+    ∷ fldIf (chroma profile space) (the "subsampling_x") 1 (v .subsampling-x)
+    ∷ fldIf (chroma profile space) (the "subsampling_y") 1 (v .subsampling-y)
+    ∷ fldIf (sampled profile) (the "reserved_zero") 1 (v .reserved-zero)
+    ∷ []
 
 -- record: RGB is full range and not subsampled; profiles 0 and 2 are else 4:2:0
 abbrev pub rangeOf : ℕ → ℕ → ColorRange
@@ -67,6 +49,19 @@ rangeOf space bit = pick (srgb space) FullSwing (colorRangeOf bit)
 abbrev pub subsampling : ℕ → ℕ → ℕ → Bool
 subsampling profile space bit = pick (srgb space) false (pick (sampled profile) (flag bit) true)
 
+-- reading
+abbrev pub noSampling : SamplingValues
+noSampling = record { color-range = 0; subsampling-x = 0; subsampling-y = 0; reserved-zero = 0 }
+
+unfoldable pub readSampling : ℕ → ℕ → Reader SamplingValues
+readSampling profile space = do
+  r ← fieldIf (not (srgb space)) (the "color_range") 1
+  x ← fieldIf (chroma profile space) (the "subsampling_x") 1
+  y ← fieldIf (chroma profile space) (the "subsampling_y") 1
+  z ← fieldIf (sampled profile) (the "reserved_zero") 1
+  give (record { color-range = r; subsampling-x = x; subsampling-y = y; reserved-zero = z })
+
+-- the code's answer
 unfoldable pub samplingOf : ℕ → ℕ → SamplingValues → Sampling
 samplingOf profile space v =
     record {
@@ -75,7 +70,6 @@ samplingOf profile space v =
       «subsampling_y» = subsampling profile space (v .subsampling-y);
     }
 
--- the code's answer
 abbrev pub viewSampling : SamplingRead → Got Sampling
 viewSampling (Value a c) = got a (c .at)
 viewSampling Short = refused PastEnd

@@ -16,18 +16,11 @@ use Rattle.bits.specs.Reader.{got, refused, over, Reader}
 use Rattle.feature.specs.declared.Feature.{Feature}
 use Rattle.feature.specs.declared.FeatureRead.{FeatureRead}
 use Rattle.feature.specs.declared.FeatureRead.the-variants.{Value, Short}
-use Rattle.segment_map.specs.Times.{eachOf}
-use Rattle.feature.specs.Feature.{FeatureValues, readFeature, featureOf, FeatureIs}
+use Rattle.bits.specs.Many.{eachOf}
+use Rattle.feature.specs.Feature.{FeatureValues, readFeature, featureOf, FeatureIs, enabledOf, dataValue}
 use Rattle.segment_data.specs.Features.{readFeatures, rowOf, featuresOf}
 use Rattle.segment_map.proofs.Rows.{seen, unseen, both, Filled, fill-start, fill-turn, fill-stop, fill-end}
 use Rattle.segment_data.proofs.Flat.{row-flat}
-
--- what stands in each row of features
-abbrev on : FeatureValues → Bool
-on a = featureOf a .enabled
-
-abbrev value : FeatureValues → ℤ
-value a = featureOf a .value
 
 -- the feature at place k of a row
 abbrev placed : ℕ → Reader FeatureValues
@@ -37,33 +30,34 @@ placed k = readFeature (k / 4) (k % 4)
 pub record FeaturesFilling (s : List ℕ) (p₀ k p : ℕ) (e : List Bool) (l : List ℤ) : Type 0 where
   pub flags : length e ≡ 32
   pub numbers : length l ≡ 32
-  pub enabled : Filled on 32 placed s p₀ (replicate 32 false) k p e
-  pub values : Filled value 32 placed s p₀ (replicate 32 (pos 0)) k p l
+  pub enabled : Filled enabledOf 32 placed s p₀ (replicate 32 false) k p e
+  pub values : Filled dataValue 32 placed s p₀ (replicate 32 (pos 0)) k p l
 
 pub features-start : (s : List ℕ) (p : ℕ) → FeaturesFilling s p 0 p (replicate 32 false) (replicate 32 (pos 0))
 features-start s p = record {
   flags = refl;
   numbers = refl;
-  enabled = fill-start on 32 placed s p (replicate 32 false);
-  values = fill-start value 32 placed s p (replicate 32 (pos 0));
+  enabled = fill-start enabledOf 32 placed s p (replicate 32 false);
+  values = fill-start dataValue 32 placed s p (replicate 32 (pos 0));
 }
 
 module _ {s : List ℕ} {p₀ k p : ℕ} {e : List Bool} {l : List ℤ} (h : FeaturesFilling s p₀ k p e l) where
   pub features-end : 32 ≤ k → got (record { enabled = e; values = l }) p ≡ over featuresOf (readFeatures s p₀)
   unfolding featuresOf readFeatures
   features-end all =
-      both (rowOf on 8) (rowOf value 8) (λ a b. record { enabled = a; values = b }) (readFeatures s p₀)
-      (fill-end (h .enabled) all ∙ row-flat on readFeature s p₀)
-      (fill-end (h .values) all ∙ row-flat value readFeature s p₀)
+      both (rowOf enabledOf 8) (rowOf dataValue 8) (λ a b. record { enabled = a; values = b }) (readFeatures s p₀)
+      (fill-end (h .enabled) all ∙ row-flat enabledOf readFeature s p₀)
+      (fill-end (h .values) all ∙ row-flat dataValue readFeature s p₀)
 
   module _ (r : FeatureRead) (x : FeatureIs s p (k % 4) r) (more : k < 32) where
     pub features-cut : r ≡ Short → refused PastEnd ≡ over featuresOf (readFeatures s p₀)
     unfolding readFeatures
     features-cut t =
-        unseen featuresOf (rowOf on 8) (readFeatures s p₀)
-        (fill-stop (h .enabled) (eachOf on 32) more (unseen on featureOf (placed k s p) (rw t at (x (k / 4)))) ∙ row-flat on readFeature s p₀)
+        unseen featuresOf (rowOf enabledOf 8) (readFeatures s p₀)
+        (fill-stop (h .enabled) (eachOf enabledOf 32) more (unseen enabledOf featureOf (placed k s p) (rw t at (x (k / 4)))) ∙ row-flat enabledOf readFeature s p₀)
 
     pub features-turn : (f : Feature) (c : Cursor) → r ≡ Value f c → SFits w16 (f .value) → FeaturesFilling s p₀ (k + 1) (c .at) (set e k (f .enabled)) (set l k (toZ w16 (ofZ w16 (f .value))))
+    unfolding featureOf
     features-turn f c t fits =
         let here : got f (c .at) ≡ over featureOf (placed k s p) = rw t at (x (k / 4)) in
         record {

@@ -6,9 +6,8 @@ use mathlib.Core.List.{List, [], _++_, append-nil, append-assoc}
 use native.Mathlib.Nat.{add-zero, zero-add}
 use native.Mathlib.Omega.{arith}
 use Rattle.bits.specs.Reader.{Got, got, refused, over, Reader}
-use Rattle.bits.specs.Many.{Times, many, folds}
+use Rattle.bits.specs.Many.{Times, many, folds, eachOf}
 use Rattle.bits.proofs.Many.{turn, turn-stop}
-use Rattle.segment_map.specs.Times.{eachOf}
 use Rattle.feature.specs.Feature.{FeatureValues}
 use Rattle.segment_data.specs.Features.{rowOf}
 use Rattle.segment_map.proofs.Rows.{grown, grown-each, over-same}

@@ -3,37 +3,32 @@
 use Prim.Native.Nat.{ℕ}
 use mathlib.Core.Bool.{Bool, true, false}
 use mathlib.Core.Path.{_≡_}
-use mathlib.Core.List.{List, [], _∷_, _++_}
+use mathlib.Core.List.{List, _∷_}
 use lib.IntN.{ℤ}
 use Rattle.bits.specs.Refusal.{the}
-use Rattle.bits.specs.Syntax.{Field, fld, flag, optional, Coded, Given}
+use Rattle.bits.specs.Syntax.{Field, fld, flag, optional, fldIf}
 use Rattle.bits.specs.Reader.{pick, Reader, give, _>>=_, field, fieldIf, groupIf, over}
 use Rattle.settings.specs.declared.segmentation.SegmentationParams.{SegmentationParams}
 use Rattle.segment_map.specs.declared.SegmentationRead.{SegmentationRead}
 use Rattle.segment_map.specs.Answer.{viewSegmentation, Kept}
-use Rattle.segment_data.specs.Features.{FeaturesValues, noFeatures, featuresFields, FeaturesLack, readFeatures, featuresOf}
+use Rattle.segment_data.specs.Features.{FeaturesValues, noFeatures, featuresFields, readFeatures, featuresOf}
 
 pub record DataValues : Type 0 where
   pub update-data : ℕ
   pub abs-or-delta-update : ℕ
   pub features : FeaturesValues
 
-abbrev pub noData : DataValues
-noData = record { update-data = 0; abs-or-delta-update = 0; features = noFeatures }
-
 -- spelling
 unfoldable pub dataFields : DataValues → List Field
 dataFields v =
     fld (the "segmentation_update_data") 1 (v .update-data)
-    ∷ (optional (flag (v .update-data)) (fld (the "segmentation_abs_or_delta_update") 1 (v .abs-or-delta-update) ∷ [])
-    ++ optional (flag (v .update-data)) (featuresFields (v .features)))
-
-unfoldable pub DataLacks : DataValues → Type 0
-DataLacks v =
-    Coded (flag (v .update-data)) (v .abs-or-delta-update)
-    × Given (flag (v .update-data)) FeaturesLack noFeatures (v .features)
+    ∷ fldIf (flag (v .update-data)) (the "segmentation_abs_or_delta_update") 1 (v .abs-or-delta-update)
+    ∷ optional (flag (v .update-data)) (featuresFields (v .features))
 
 -- reading
+abbrev pub noData : DataValues
+noData = record { update-data = 0; abs-or-delta-update = 0; features = noFeatures }
+
 unfoldable pub readData : Reader DataValues
 readData = do
   d ← field (the "segmentation_update_data") 1
@@ -41,7 +36,7 @@ readData = do
   f ← groupIf (flag d) noFeatures readFeatures
   give (record { update-data = d; abs-or-delta-update = a; features = f })
 
--- the settings with another features' part
+-- the code's answer: the settings with another features' part
 abbrev pub withData : SegmentationParams → Bool → Bool → List Bool → List ℤ → SegmentationParams
 withData old update absolute enabled values =
     record {
@@ -56,13 +51,13 @@ withData old update absolute enabled values =
       «feature_data» = values;
     }
 
--- record: an update sets every feature; without one they keep their values
+-- an update sets every feature; without one they keep their values
 unfoldable pub dataOf : SegmentationParams → DataValues → SegmentationParams
 dataOf old v =
     pick (flag (v .update-data))
     (withData old true (flag (v .abs-or-delta-update)) (featuresOf (v .features) .enabled) (featuresOf (v .features) .values))
     (withData old false (old .«abs_or_delta_update») (old .«feature_enabled») (old .«feature_data»))
 
--- the code's answer: what `parse_data` answers, from the remembered settings
+-- what `parse_data` answers, from the remembered settings
 abbrev pub DataIs : List ℕ → ℕ → SegmentationParams → SegmentationRead → Type 0
 DataIs s p old r = (viewSegmentation r ≡ over (dataOf old) (readData s p)) × Kept old (r .seg) (r .next)

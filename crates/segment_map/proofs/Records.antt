@@ -14,7 +14,7 @@ use Rattle.bits.specs.Reader.{got, groupIf}
 use Rattle.coded.specs.Prob.{noProb, probOf}
 use Rattle.settings.specs.declared.segmentation.SegmentationParams.{SegmentationParams}
 use Rattle.segment_map.specs.declared.ProbsRead.{ProbsRead}
-use Rattle.segment_map.specs.Times.{eachOf}
+use Rattle.bits.specs.Many.{eachOf}
 use Rattle.segment_map.specs.Probs.{ProbsValues, probsOf, ProbsAre, ProbsAreIf}
 use Rattle.segment_map.specs.Map.{withMap, mapOf}
 use Rattle.segment_map.specs.Answer.{Kept}

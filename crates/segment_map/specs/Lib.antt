@@ -1,4 +1,3 @@
-pub mod Times
 pub mod Probs
 pub mod Answer
 pub mod Map

@@ -9,33 +9,28 @@ use lib.ListN.{drop, replicate}
 use Rattle.bits.specs.Refusal.{item}
 use Rattle.bits.specs.Syntax.{Field}
 use Rattle.bits.specs.Reader.{Got, Reader, groupIf, over, viewNext}
-use Rattle.bits.specs.Many.{Times, Each, manyFields, many}
-use Rattle.coded.specs.Prob.{ProbValues, noProb, probFields, ProbLacks, readProb, probOf}
-use Rattle.segment_map.specs.Times.{times, eachOf}
+use Rattle.bits.specs.Many.{Times, manyFields, many, times, eachOf}
+use Rattle.coded.specs.Prob.{ProbValues, noProb, probFields, readProb, probOf}
 use Rattle.segment_map.specs.declared.ProbsRead.{ProbsRead}
 
 abbrev pub ProbsValues : ℕ → Type 0
 ProbsValues n = Times n ProbValues
 
-abbrev pub noProbs : (n : ℕ) → ProbsValues n
-noProbs n = times n noProb
-
 -- spelling: n flags x, each with its probability y
 unfoldable pub probsFields : String → String → (n : ℕ) → ProbsValues n → List Field
 probsFields x y n = manyFields (λ i. probFields (item x i) (item y i)) 0 n
 
-unfoldable pub ProbsLack : (n : ℕ) → ProbsValues n → Type 0
-ProbsLack n = Each (λ i. ProbLacks) 0 n
-
 -- reading
+abbrev pub noProbs : (n : ℕ) → ProbsValues n
+noProbs n = times n noProb
+
 unfoldable pub readProbs : String → String → (n : ℕ) → Reader (ProbsValues n)
 readProbs x y n = many 0 n (λ i. readProb (item x i) (item y i))
 
--- record: the code's row of 7 places, where those past the n probabilities are 255
+-- the code's answer: the code's row of 7 places, where those past the n probabilities are 255
 unfoldable pub probsOf : (n : ℕ) → ProbsValues n → List ℕ
 probsOf n v = eachOf probOf n v ++ drop n (replicate 7 255)
 
--- the code's answer
 abbrev pub viewProbs : ProbsRead → Got (List ℕ)
 viewProbs r = viewNext (r .probs) (r .next)
 

@@ -10,14 +10,24 @@ use Rattle.bits.specs.Reader.{got, viewNext}
 use Rattle.settings.specs.declared.segmentation.SegmentationParams.{SegmentationParams}
 use Rattle.segment_map.specs.Map.{MapValues, noMap, mapOf}
 use Rattle.segment_data.specs.Data.{DataValues, noData, dataOf}
-use Rattle.segmentation.specs.Segmentation.{switched, segmentationOf}
+use Rattle.segmentation.specs.Segmentation.{switched, segmentationOf, SegmentationValues}
+use mathlib.Core.Bool.{Bool, true, false}
+use Rattle.bits.specs.Syntax.{flag}
+use Rattle.segment_data.specs.Features.{featuresOf}
 
 -- the settings where segmentation is off, and where both parts were read
 pub off-read : (old : SegmentationParams) (e p : ℕ) → got (switched old (eqb e 1)) p ≡ got (segmentationOf old (record { enabled = e; map-part = noMap; data-part = noData })) p
-unfolding segmentationOf mapOf dataOf
+unfolding segmentationOf
 off-read old e p = refl
+
+both : (old : SegmentationParams) (v : SegmentationValues) (m d : Bool) → flag (v .map-part .update-map) ≡ m → flag (v .data-part .update-data) ≡ d
+    → dataOf (mapOf (switched old (flag (v .enabled))) (v .map-part)) (v .data-part) ≡ segmentationOf old v
+unfolding segmentationOf mapOf dataOf featuresOf
+both old v true true em ed = rw (em, ed)
+both old v true false em ed = rw (em, ed)
+both old v false true em ed = rw (em, ed)
+both old v false false em ed = rw (em, ed)
 
 pub parts-read : (old seg new : SegmentationParams) (e : ℕ) (m : MapValues) (d : DataValues) (n : Next) (c : Cursor) → seg ≡ mapOf (switched old (eqb e 1)) m → new ≡ dataOf seg d → n ≡ At c
     → viewNext new n ≡ got (segmentationOf old (record { enabled = e; map-part = m; data-part = d })) (c .at)
-unfolding segmentationOf
-parts-read old seg new e m d n c es en h = rw (h, en, es)
+parts-read old seg new e m d n c es en h = rw (h, en, es, both old (record { enabled = e; map-part = m; data-part = d }) _ _ refl refl)

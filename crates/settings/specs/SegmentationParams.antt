@@ -39,7 +39,7 @@ resetSegmentation p =
       «feature_data» = replicate 32 (pos 0);
     }
 
--- a segment's feature in a row of eight segments by four features; d where there is no such segment
+-- segments: a segment's feature in a row of eight segments by four features; d where there is no such segment
 abbrev pub featureIn : {A : Type 0} → List A → A → ℕ → SegLvl → A
 featureIn row d segment feature = pick (ltb segment 8) (getD row (segment * 4 + segLvlNumber feature) d) d
 

@@ -1,33 +1,29 @@
 -- frame_size_with_refs() (VP9 6.2.5): the size of the first reference whose found_ref is 1, or one of its own; and the render size.
 -- Assumes nothing.
-use Prim.Native.Nat.{ℕ, _≤_, _<_}
+use Prim.Native.Nat.{ℕ, _<_}
 use mathlib.Core.Path.{_≡_}
 use mathlib.Core.List.{List, [], _∷_, _++_}
 use lib.Dec.{eqb}
 use lib.ListN.{getD}
-use Rattle.bits.specs.Syntax.{Field, optional, Given}
+use Rattle.bits.specs.Syntax.{Field, optional}
 use Rattle.bits.specs.Reader.{Got, got, refused, Reader, give, _>>=_, groupIf, over}
-use Rattle.bits.specs.Law.{Any}
 use Rattle.bits.specs.declared.Refusal.the-variants.{PastEnd}
 use Rattle.coded.specs.Run.{runFields, readRun}
 use Rattle.settings.specs.FrameSize.{noSize}
 use Rattle.settings.specs.declared.size.FrameSize.{FrameSize}
 use Rattle.sizes.specs.Size.{SizeValues, noSizeValues, frameFields, readFrameSize, sizeOr}
-use Rattle.sizes.specs.Render.{RenderValues, noRender, renderFields, RenderLacks, readRender}
+use Rattle.sizes.specs.Render.{RenderValues, noRender, renderFields, readRender}
 use Rattle.sizes.specs.Sizes.{withRender}
 use Rattle.size_with_refs.specs.declared.Found.{Found}
 use Rattle.size_with_refs.specs.declared.Found.the-variants.{At, Nothing, Short}
 use Rattle.refs.specs.declared.Refs.{Refs}
 use Rattle.sizes.specs.declared.Sizes.{Sizes}
 
--- found-ref: how many of the flags are 0 before the one that is 1, so that it is the number of that reference; 3 where all three are 0
+-- found-ref: how many of the flags are 0 before the one that is 1, so that it is the number of that reference; 3 where all three are 0, as where they are not there
 pub record SizeWithRefsValues : Type 0 where
   pub found-ref : ℕ
   pub size : SizeValues
   pub render : RenderValues
-
-abbrev pub noSizeWithRefs : SizeWithRefsValues
-noSizeWithRefs = record { found-ref = 0; size = noSizeValues; render = noRender }
 
 -- spelling
 unfoldable pub sizeWithRefsFields : SizeWithRefsValues → List Field
@@ -36,18 +32,7 @@ sizeWithRefsFields v =
     ++ (optional (eqb (v .found-ref) 3) (frameFields (v .size))
     ++ renderFields (v .render))
 
-unfoldable pub SizeWithRefsLacks : SizeWithRefsValues → Type 0
-SizeWithRefsLacks v = (v .found-ref ≤ 3) × (Given (eqb (v .found-ref) 3) Any noSizeValues (v .size) × RenderLacks (v .render))
-
--- reading
-unfoldable pub readSizeWithRefs : Reader SizeWithRefsValues
-readSizeWithRefs = do
-  k ← readRun "found_ref" 0 0 3
-  z ← groupIf (eqb k 3) noSizeValues readFrameSize
-  r ← readRender
-  give (record { found-ref = k; size = z; render = r })
-
--- the size that slot i remembers
+-- record: the size that slot i remembers
 abbrev pub slotSize : List FrameSize → ℕ → FrameSize
 slotSize slots i = getD slots i noSize
 
@@ -55,14 +40,26 @@ slotSize slots i = getD slots i noSize
 abbrev pub refSlot : Refs → ℕ → ℕ
 refSlot refs k = getD (refs .last .idx ∷ refs .golden .idx ∷ refs .altref .idx ∷ []) k 0
 
--- record, from the references and the remembered sizes
+-- from the references and the remembered sizes
 abbrev pub foundSize : List FrameSize → Refs → SizeWithRefsValues → FrameSize
 foundSize slots refs v = sizeOr (eqb (v .found-ref) 3) (slotSize slots (refSlot refs (v .found-ref))) (v .size)
 
+-- reading
+abbrev pub noSizeWithRefs : SizeWithRefsValues
+noSizeWithRefs = record { found-ref = 3; size = noSizeValues; render = noRender }
+
+unfoldable pub readSizeWithRefs : Reader SizeWithRefsValues
+readSizeWithRefs = do
+  k ← readRun "found_ref" 0 0 3
+  z ← groupIf (eqb k 3) noSizeValues readFrameSize
+  r ← readRender
+  give (record { found-ref = k; size = z; render = r })
+
+-- the code's answer
 unfoldable pub sizeWithRefsOf : List FrameSize → Refs → SizeWithRefsValues → Sizes
 sizeWithRefsOf slots refs v = withRender (foundSize slots refs v) (v .render)
 
--- the code's answer to the flags: found-ref
+-- to the flags: found-ref
 abbrev pub viewFound : Found → Got ℕ
 viewFound (At i c) = got i (c .at)
 viewFound (Nothing c) = got 3 (c .at)

@@ -5,33 +5,46 @@ use mathlib.Core.Path.{refl}
 use mathlib.Core.Bool.{Bool, true, false}
 use native.Mathlib.Omega.{arith}
 use Rattle.bits.specs.Refusal.{Name, the}
-use Rattle.bits.specs.Syntax.{flag, optional, size}
+use Rattle.bits.specs.Syntax.{flag, optional, size, Ranged, bare}
 use Rattle.bits.specs.Law.{Any, Reads}
-use Rattle.bits.proofs.Fields.{size-append}
-use Rattle.bits.proofs.Laws.{take, next, next-if, last, done, ends}
-use Rattle.sizes.specs.Size.{SizeValues, noSizeValues, sizeFields, readSize}
-use Rattle.sizes.specs.Render.{RenderValues, renderFields, RenderLacks, readRender}
-use Rattle.sizes.specs.Sizes.{SizesValues, sizesFields, SizesLacks, readSizes}
+use Rattle.bits.proofs.Fields.{size-append, bare-join, bare-size}
+use Rattle.bits.proofs.Laws.{then, take, next-if, last, done, ends}
+use Rattle.sizes.specs.Size.{SizeValues, noSizeValues, sizeFields, readSize, frameFields}
+use Rattle.sizes.specs.Render.{RenderValues, renderFields, readRender, noRender}
+use Rattle.sizes.specs.Sizes.{SizesValues, sizesFields, readSizes, noSizes}
 
-pub size-reads : (x y : Name) → Reads Any Any (sizeFields x y) (readSize x y)
+pub size-reads : (x y : Name) → Reads Any (sizeFields x y) (readSize x y)
 unfolding sizeFields readSize
 size-reads x y =
     take (λ (v : SizeValues). v .width-minus-1) λ w.
     take (λ (v : SizeValues). v .height-minus-1) λ h.
-    done _ (search) tt (λ b k y. rw (← (k .1), ← (k .0 .1)))
+    done _ (search) (λ b k. rw (← (k .1), ← (k .0 .1)))
 
-pub render-reads : Reads Any RenderLacks renderFields readRender
-unfolding renderFields RenderLacks readRender
+pub size-nil : (x y : Name) → Ranged (bare (sizeFields x y noSizeValues))
+unfolding sizeFields
+size-nil x y = omega arith
+
+pub render-reads : Reads Any renderFields readRender
+unfolding renderFields readRender
 render-reads =
     take (λ (v : RenderValues). v .render-and-frame-size-different) λ d.
-    ends (next-if (flag d) (λ (v : RenderValues). flag (v .render-and-frame-size-different)) (λ v k. rw (k .1)) noSizeValues (λ (v : RenderValues). v .size) (size-reads _ _) λ z.
-    done _ (search) tt (λ b k y. rw (← (k .1), ← (k .0 .1))))
+    ends (next-if (flag d) (λ (v : RenderValues). flag (v .render-and-frame-size-different)) (λ v k. rw (k .1)) noSizeValues (size-nil _ _) (λ (v : RenderValues). v .size) (size-reads _ _) λ z.
+    done _ (search) (λ b k. rw (← (k .1), ← (k .0 .1))))
 
-pub sizes-reads : Reads Any SizesLacks sizesFields readSizes
-unfolding sizesFields SizesLacks readSizes
+pub sizes-reads : Reads Any sizesFields readSizes
+unfolding sizesFields readSizes
 sizes-reads =
-    next (λ (v : SizesValues). v .size) (size-reads _ _) λ z.
+    then (λ (v : SizesValues). v .size) (size-reads _ _) λ z.
     last (λ (v : SizesValues). v .render) render-reads (λ a. (tt, refl)) (λ a. refl) (λ b k. rw (← (k .1)))
+
+-- all of them 0
+pub render-nil : Ranged (bare (renderFields noRender))
+unfolding renderFields sizeFields
+render-nil = omega arith
+
+pub sizes-nil : Ranged (bare (sizesFields noSizes))
+unfolding sizesFields
+sizes-nil = bare-join (frameFields noSizeValues) (renderFields noRender) (size-nil _ _) render-nil
 
 -- how many bits they have at most
 pub size-size : (x y : Name) (v : SizeValues) → size (sizeFields x y v) ≤ 32
@@ -41,7 +54,7 @@ size-size x y v = omega arith
 -- also where it is there only sometimes
 pub size-if-size : (b : Bool) (x y : Name) (v : SizeValues) → size (optional b (sizeFields x y v)) ≤ 32
 size-if-size true x y v = size-size x y v
-size-if-size false x y v = omega arith
+size-if-size false x y v = omega (arith, bare-size (sizeFields x y v))
 
 pub render-size : (v : RenderValues) → size (renderFields v) ≤ 33
 unfolding renderFields

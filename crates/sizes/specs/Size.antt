@@ -16,27 +16,13 @@ pub record SizeValues : Type 0 where
   pub width-minus-1 : ℕ
   pub height-minus-1 : ℕ
 
--- no size is coded
-abbrev pub noSizeValues : SizeValues
-noSizeValues = record { width-minus-1 = 0; height-minus-1 = 0 }
-
 -- spelling, with the names of its two fields
 unfoldable pub sizeFields : Name → Name → SizeValues → List Field
 sizeFields x y v = fld x 16 (v .width-minus-1) ∷ fld y 16 (v .height-minus-1) ∷ []
 
--- reading, with the same names
-unfoldable pub readSize : Name → Name → Reader SizeValues
-readSize x y = do
-  w ← field x 16
-  h ← field y 16
-  give (record { width-minus-1 = w; height-minus-1 = h })
-
 -- the names of a frame's size
 abbrev pub frameFields : SizeValues → List Field
 frameFields = sizeFields (the "frame_width_minus_1") (the "frame_height_minus_1")
-
-abbrev pub readFrameSize : Reader SizeValues
-readFrameSize = readSize (the "frame_width_minus_1") (the "frame_height_minus_1")
 
 -- record
 unfoldable pub sizeOf : SizeValues → FrameSize
@@ -45,6 +31,19 @@ sizeOf v = record { width = v .width-minus-1 + 1; height = v .height-minus-1 + 1
 -- a size that is there only if b holds, else another
 abbrev pub sizeOr : Bool → FrameSize → SizeValues → FrameSize
 sizeOr b other v = pick b (sizeOf v) other
+
+-- reading, with the same names
+abbrev pub noSizeValues : SizeValues
+noSizeValues = record { width-minus-1 = 0; height-minus-1 = 0 }
+
+unfoldable pub readSize : Name → Name → Reader SizeValues
+readSize x y = do
+  w ← field x 16
+  h ← field y 16
+  give (record { width-minus-1 = w; height-minus-1 = h })
+
+abbrev pub readFrameSize : Reader SizeValues
+readFrameSize = readSize (the "frame_width_minus_1") (the "frame_height_minus_1")
 
 -- the code's answer
 abbrev pub viewSize : SizeRead → Got FrameSize

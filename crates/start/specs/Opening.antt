@@ -3,9 +3,9 @@
 use Prim.Native.Nat.{ℕ}
 use mathlib.Core.List.{List, [], _∷_, _++_}
 use Rattle.bits.specs.Refusal.{the}
-use Rattle.bits.specs.Syntax.{Field, fld, flag, optional, Coded}
+use Rattle.bits.specs.Syntax.{Field, fld, flag, fldIf}
 use Rattle.bits.specs.Reader.{Got, got, refused, Reader, give, _>>=_, field, fieldIf}
-use Rattle.start.specs.Profile.{ProfileValues, profileFields, ProfileLacks, readProfile, profileNumber}
+use Rattle.start.specs.Profile.{ProfileValues, profileFields, readProfile, profileNumber}
 use Rattle.start.specs.declared.Opening.{Opening}
 use Rattle.start.specs.declared.OpeningRead.{OpeningRead}
 use Rattle.start.specs.declared.OpeningRead.the-variants.{Value, Refused}
@@ -20,10 +20,8 @@ unfoldable pub openingFields : OpeningValues → List Field
 openingFields v =
     profileFields (v .profile)
     ++ (fld (the "show_existing_frame") 1 (v .show-existing-frame)
-    ∷ optional (flag (v .show-existing-frame)) (fld (the "frame_to_show_map_idx") 3 (v .frame-to-show-map-idx) ∷ []))
-
-unfoldable pub OpeningLacks : OpeningValues → Type 0
-OpeningLacks v = ProfileLacks (v .profile) × Coded (flag (v .show-existing-frame)) (v .frame-to-show-map-idx)
+    ∷ fldIf (flag (v .show-existing-frame)) (the "frame_to_show_map_idx") 3 (v .frame-to-show-map-idx)
+    ∷ [])
 
 -- reading
 unfoldable pub readOpening : Reader OpeningValues
@@ -33,7 +31,7 @@ readOpening = do
   i ← fieldIf (flag x) (the "frame_to_show_map_idx") 3
   give (record { profile = p; show-existing-frame = x; frame-to-show-map-idx = i })
 
--- record
+-- the code's answer
 unfoldable pub openingOf : OpeningValues → Opening
 openingOf v =
     record {
@@ -42,7 +40,6 @@ openingOf v =
       «frame_to_show_map_idx» = v .frame-to-show-map-idx;
     }
 
--- the code's answer
 abbrev pub viewOpening : OpeningRead → Got Opening
 viewOpening (Value a c) = got a (c .at)
 viewOpening (Refused e) = refused e

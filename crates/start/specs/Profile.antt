@@ -4,7 +4,7 @@ use Prim.Native.Nat.{ℕ, _+_, _*_}
 use mathlib.Core.List.{List, [], _∷_}
 use lib.Dec.{eqb}
 use Rattle.bits.specs.Refusal.{the, frameMarker}
-use Rattle.bits.specs.Syntax.{Field, fld, fixed, optional, Coded}
+use Rattle.bits.specs.Syntax.{Field, fld, fixed, fldIf}
 use Rattle.bits.specs.Reader.{Got, got, refused, Reader, give, _>>=_, field, must, fieldIf}
 use Rattle.start.specs.declared.ProfileRead.{ProfileRead}
 use Rattle.start.specs.declared.ProfileRead.the-variants.{Value, Refused}
@@ -25,10 +25,8 @@ profileFields v =
     fixed (the "frame_marker") 2 2 frameMarker (v .frame-marker)
     ∷ fld (the "profile_low_bit") 1 (v .profile-low-bit)
     ∷ fld (the "profile_high_bit") 1 (v .profile-high-bit)
-    ∷ optional (eqb (profileNumber v) 3) (fld (the "reserved_zero") 1 (v .reserved-zero) ∷ [])
-
-unfoldable pub ProfileLacks : ProfileValues → Type 0
-ProfileLacks v = Coded (eqb (profileNumber v) 3) (v .reserved-zero)
+    ∷ fldIf (eqb (profileNumber v) 3) (the "reserved_zero") 1 (v .reserved-zero)
+    ∷ []
 
 -- reading
 unfoldable pub readProfile : Reader ProfileValues

@@ -18,11 +18,10 @@ readSync = do
   n ← must (the "frame_sync_code") 24 0x498342 syncCode
   give n
 
--- nothing is left of it in the record
+-- the code's answer: nothing is left of it in the record
 abbrev pub syncOf : ℕ → Unit {0}
 syncOf n = tt
 
--- the code's answer
 abbrev pub viewSync : SyncRead → Got (Unit {0})
 viewSync (Value c) = got tt (c .at)
 viewSync (Refused e) = refused e

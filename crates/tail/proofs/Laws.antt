@@ -3,30 +3,46 @@
 use Prim.Native.Nat.{ℕ, _≤_}
 use mathlib.Core.Path.{refl}
 use native.Mathlib.Omega.{arith}
-use Rattle.bits.specs.Syntax.{size}
+use Rattle.bits.specs.Syntax.{size, Ranged, bare, fld}
 use Rattle.bits.specs.Law.{Any, Reads}
-use Rattle.bits.proofs.Laws.{take, then, last, done, rest}
-use Rattle.bits.proofs.Fields.{size-append}
-use Rattle.filter.proofs.Laws.{loop-filter-reads, loop-filter-size}
-use Rattle.quantizer.proofs.Laws.{quantizer-reads, quantizer-size}
-use Rattle.segmentation.proofs.Laws.{segmentation-reads, segmentation-size}
-use Rattle.tiles.proofs.Laws.{tiles-reads, tiles-size}
-use Rattle.tail.specs.Settings.{SettingsValues, settingsFields, SettingsLacks, readSettings}
-use Rattle.tail.specs.Closing.{ClosingValues, closingFields, ClosingLacks, readClosing}
+use Rattle.bits.proofs.Laws.{then, take, last, done}
+use Rattle.bits.proofs.Fields.{size-append, bare-join}
+use Rattle.filter.proofs.Laws.{loop-filter-reads, loop-filter-size, loop-filter-nil}
+use Rattle.quantizer.proofs.Laws.{quantizer-reads, quantizer-size, quantizer-nil}
+use Rattle.segmentation.proofs.Laws.{segmentation-reads, segmentation-size, segmentation-nil}
+use Rattle.tiles.proofs.Laws.{tiles-reads, tiles-size, tiles-nil}
+use Rattle.tail.specs.Settings.{SettingsValues, settingsFields, readSettings, noSettings}
+use Rattle.tail.specs.Closing.{ClosingValues, closingFields, readClosing, noClosing}
+use mathlib.Core.List.{[], _∷_, _++_}
+use Rattle.bits.specs.Refusal.{the}
+use Rattle.filter.specs.LoopFilter.{noLoopFilter, loopFilterFields}
+use Rattle.quantizer.specs.Quantizer.{noQuantizer, quantizerFields}
+use Rattle.segmentation.specs.Segmentation.{noSegmentation, segmentationFields}
+use Rattle.tiles.specs.Tiles.{noTiles, tilesFields}
 
-pub settings-reads : Reads Any SettingsLacks settingsFields readSettings
-unfolding settingsFields SettingsLacks readSettings
+pub settings-reads : Reads Any settingsFields readSettings
+unfolding settingsFields readSettings
 settings-reads =
     then (λ (v : SettingsValues). v .loop-filter) loop-filter-reads λ l.
     then (λ (v : SettingsValues). v .quantizer) quantizer-reads λ q.
     last (λ (v : SettingsValues). v .segmentation) segmentation-reads (λ a. (search)) (λ a. refl) (λ b k. rw (← (k .1), ← (k .0 .1)))
 
-pub closing-reads : (width : ℕ) → Reads Any (ClosingLacks width) (closingFields width) (readClosing width)
-unfolding closingFields ClosingLacks readClosing
+pub closing-reads : (width : ℕ) → Reads Any (closingFields width) (readClosing width)
+unfolding closingFields readClosing
 closing-reads width =
-    rest (then (λ (v : ClosingValues). v .tiles) (tiles-reads width) λ t.
+    then (λ (v : ClosingValues). v .tiles) (tiles-reads width) λ t.
     take (λ (v : ClosingValues). v .header-size-in-bytes) λ n.
-    done _ (search) tt (λ b k y. rw (← (k .1), ← (k .0 .1))))
+    done _ (search) (λ b k. rw (← (k .1), ← (k .0 .1)))
+
+pub settings-nil : Ranged (bare (settingsFields noSettings))
+unfolding settingsFields
+settings-nil =
+    bare-join (loopFilterFields noLoopFilter) (quantizerFields noQuantizer ++ segmentationFields noSegmentation) loop-filter-nil
+    (bare-join (quantizerFields noQuantizer) (segmentationFields noSegmentation) quantizer-nil segmentation-nil)
+
+pub closing-nil : (width : ℕ) → Ranged (bare (closingFields width noClosing))
+unfolding closingFields
+closing-nil width = bare-join (tilesFields width noTiles) (fld (the "header_size_in_bytes") 16 0 ∷ []) (tiles-nil width) (omega arith)
 
 pub settings-size : (v : SettingsValues) → size (settingsFields v) ≤ 500
 unfolding settingsFields

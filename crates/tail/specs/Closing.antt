@@ -6,7 +6,7 @@ use Rattle.bits.specs.Refusal.{the}
 use Rattle.bits.specs.Syntax.{Field, fld}
 use Rattle.bits.specs.Reader.{Got, got, refused, Reader, give, _>>=_, field}
 use Rattle.bits.specs.declared.Refusal.the-variants.{PastEnd}
-use Rattle.tiles.specs.Tiles.{TilesValues, noTiles, tilesFields, TilesLacks, readTiles, tilesOf}
+use Rattle.tiles.specs.Tiles.{TilesValues, noTiles, tilesFields, readTiles, tilesOf}
 use Rattle.tail.specs.declared.Closing.{Closing}
 use Rattle.tail.specs.declared.ClosingRead.{ClosingRead}
 use Rattle.tail.specs.declared.ClosingRead.the-variants.{Value, Short}
@@ -15,28 +15,24 @@ pub record ClosingValues : Type 0 where
   pub tiles : TilesValues
   pub header-size-in-bytes : ℕ
 
-abbrev pub noClosing : ClosingValues
-noClosing = record { tiles = noTiles; header-size-in-bytes = 0 }
-
 -- spelling, for a frame's width
 unfoldable pub closingFields : ℕ → ClosingValues → List Field
 closingFields width v = tilesFields width (v .tiles) ++ (fld (the "header_size_in_bytes") 16 (v .header-size-in-bytes) ∷ [])
 
-unfoldable pub ClosingLacks : ℕ → ClosingValues → Type 0
-ClosingLacks width v = TilesLacks width (v .tiles)
-
 -- reading
+abbrev pub noClosing : ClosingValues
+noClosing = record { tiles = noTiles; header-size-in-bytes = 0 }
+
 unfoldable pub readClosing : ℕ → Reader ClosingValues
 readClosing width = do
   t ← readTiles width
   n ← field (the "header_size_in_bytes") 16
   give (record { tiles = t; header-size-in-bytes = n })
 
--- record
+-- the code's answer
 unfoldable pub closingOf : ℕ → ClosingValues → Closing
 closingOf width v = record { tiles = tilesOf width (v .tiles); «header_size_in_bytes» = v .header-size-in-bytes }
 
--- the code's answer
 abbrev pub viewClosing : ClosingRead → Got Closing
 viewClosing (Value a c) = got a (c .at)
 viewClosing Short = refused PastEnd

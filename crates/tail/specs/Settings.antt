@@ -13,11 +13,9 @@ use Rattle.settings.specs.QuantizationParams.{defaultQuantization}
 use Rattle.settings.specs.SegmentationParams.{resetSegmentation}
 use Rattle.settings.specs.declared.loop_filter.LoopFilterParams.{LoopFilterParams}
 use Rattle.settings.specs.declared.segmentation.SegmentationParams.{SegmentationParams}
-use Rattle.filter.specs.LoopFilter.{LoopFilterValues, noLoopFilter, loopFilterFields, LoopFilterLacks, readLoopFilter, loopFilterOf}
-use Rattle.quantizer.specs.Quantizer.{QuantizerValues, noQuantizer, quantizerFields, QuantizerLacks, readQuantizer, quantizerOf}
-use Rattle.segment_map.specs.Map.{noMap}
-use Rattle.segment_data.specs.Data.{noData}
-use Rattle.segmentation.specs.Segmentation.{SegmentationValues, segmentationFields, SegmentationLacks, readSegmentation, segmentationOf}
+use Rattle.filter.specs.LoopFilter.{LoopFilterValues, noLoopFilter, loopFilterFields, readLoopFilter, loopFilterOf}
+use Rattle.quantizer.specs.Quantizer.{QuantizerValues, noQuantizer, quantizerFields, readQuantizer, quantizerOf}
+use Rattle.segmentation.specs.Segmentation.{SegmentationValues, segmentationFields, readSegmentation, segmentationOf, noSegmentation}
 use Rattle.tail.specs.declared.Settings.{Settings}
 use Rattle.tail.specs.declared.SettingsRead.{SettingsRead}
 
@@ -26,17 +24,21 @@ pub record SettingsValues : Type 0 where
   pub quantizer : QuantizerValues
   pub segmentation : SegmentationValues
 
-abbrev pub noSettings : SettingsValues
-noSettings = record { loop-filter = noLoopFilter; quantizer = noQuantizer; segmentation = record { enabled = 0; map-part = noMap; data-part = noData } }
-
 -- spelling
 unfoldable pub settingsFields : SettingsValues → List Field
 settingsFields v = loopFilterFields (v .loop-filter) ++ (quantizerFields (v .quantizer) ++ segmentationFields (v .segmentation))
 
-unfoldable pub SettingsLacks : SettingsValues → Type 0
-SettingsLacks v = LoopFilterLacks (v .loop-filter) × (QuantizerLacks (v .quantizer) × SegmentationLacks (v .segmentation))
+-- record: what an independent frame starts from, and any other: setup_past_independence()
+abbrev pub startingFilter : Bool → LoopFilterParams → LoopFilterParams
+startingFilter independent lf = pick independent (resetFilter lf) lf
+
+abbrev pub startingSegmentation : Bool → SegmentationParams → SegmentationParams
+startingSegmentation independent seg = pick independent (resetSegmentation seg) seg
 
 -- reading
+abbrev pub noSettings : SettingsValues
+noSettings = record { loop-filter = noLoopFilter; quantizer = noQuantizer; segmentation = noSegmentation }
+
 unfoldable pub readSettings : Reader SettingsValues
 readSettings = do
   l ← readLoopFilter
@@ -44,14 +46,7 @@ readSettings = do
   g ← readSegmentation
   give (record { loop-filter = l; quantizer = q; segmentation = g })
 
--- what an independent frame starts from, and any other: setup_past_independence()
-abbrev pub startingFilter : Bool → LoopFilterParams → LoopFilterParams
-startingFilter independent lf = pick independent (resetFilter lf) lf
-
-abbrev pub startingSegmentation : Bool → SegmentationParams → SegmentationParams
-startingSegmentation independent seg = pick independent (resetSegmentation seg) seg
-
--- record, from the settings that a frame starts from
+-- the code's answer: from the settings that a frame starts from
 unfoldable pub settingsOver : LoopFilterParams → SegmentationParams → SettingsValues → Settings
 settingsOver lf seg v =
     record {
@@ -68,7 +63,6 @@ settingsOf independent lf seg = settingsOver (startingFilter independent lf) (st
 abbrev pub keptSettings : LoopFilterParams → SegmentationParams → Settings
 keptSettings lf seg = record { lf = lf; quant = defaultQuantization; seg = seg }
 
--- the code's answer
 abbrev pub viewSettings : SettingsRead → Got Settings
 viewSettings r = viewNext (r .settings) (r .next)
 

@@ -1,10 +1,10 @@
 -- tile_info() (VP9 6.2.13), for a frame's width.
 -- Assumes nothing.
-use Prim.Native.Nat.{ℕ, _+_, _-_, _≤_}
+use Prim.Native.Nat.{ℕ, _+_, _-_}
 use Prim.Native.String.{String}
 use mathlib.Core.List.{List, [], _∷_, _++_}
 use Rattle.bits.specs.Refusal.{the}
-use Rattle.bits.specs.Syntax.{Field, fld, flag, optional, Coded}
+use Rattle.bits.specs.Syntax.{Field, fld, flag, fldIf}
 use Rattle.bits.specs.Reader.{Got, got, refused, Reader, give, _>>=_, field, fieldIf}
 use Rattle.bits.specs.declared.Refusal.the-variants.{PastEnd}
 use Rattle.coded.specs.Run.{runFields, readRun}
@@ -21,9 +21,6 @@ pub record TilesValues : Type 0 where
   pub tile-rows-log2 : ℕ
   pub increment-tile-rows-log2 : ℕ
 
-abbrev pub noTiles : TilesValues
-noTiles = record { increment-tile-cols-log2 = 0; tile-rows-log2 = 0; increment-tile-rows-log2 = 0 }
-
 -- the name of these bits, and how many of them may be 1: from the least to the most
 abbrev pub increment : String
 increment = "increment_tile_cols_log2"
@@ -36,12 +33,17 @@ unfoldable pub tilesFields : ℕ → TilesValues → List Field
 tilesFields width v =
     runFields increment 1 0 (span width) (v .increment-tile-cols-log2)
     ++ (fld (the "tile_rows_log2") 1 (v .tile-rows-log2)
-    ∷ optional (flag (v .tile-rows-log2)) (fld (the "increment_tile_rows_log2") 1 (v .increment-tile-rows-log2) ∷ []))
+    ∷ fldIf (flag (v .tile-rows-log2)) (the "increment_tile_rows_log2") 1 (v .increment-tile-rows-log2)
+    ∷ [])
 
-unfoldable pub TilesLacks : ℕ → TilesValues → Type 0
-TilesLacks width v = (v .increment-tile-cols-log2 ≤ span width) × Coded (flag (v .tile-rows-log2)) (v .increment-tile-rows-log2)
+-- record
+abbrev pub colsOf : ℕ → ℕ → ℕ
+colsOf width k = least (superblocks width) + k
 
 -- reading
+abbrev pub noTiles : TilesValues
+noTiles = record { increment-tile-cols-log2 = 0; tile-rows-log2 = 0; increment-tile-rows-log2 = 0 }
+
 abbrev pub readCols : ℕ → Reader ℕ
 readCols width = readRun increment 1 0 (span width)
 
@@ -52,10 +54,7 @@ readTiles width = do
   m ← fieldIf (flag r) (the "increment_tile_rows_log2") 1
   give (record { increment-tile-cols-log2 = k; tile-rows-log2 = r; increment-tile-rows-log2 = m })
 
--- record
-abbrev pub colsOf : ℕ → ℕ → ℕ
-colsOf width k = least (superblocks width) + k
-
+-- the code's answer
 unfoldable pub tilesOf : ℕ → TilesValues → Tiles
 tilesOf width v =
     record {
@@ -63,7 +62,6 @@ tilesOf width v =
       «rows_log2» = v .tile-rows-log2 + v .increment-tile-rows-log2;
     }
 
--- the code's answer
 abbrev pub viewTiles : TilesRead → Got Tiles
 viewTiles (Value a c) = got a (c .at)
 viewTiles Short = refused PastEnd

@@ -4,35 +4,48 @@ use Prim.Native.Nat.{_≤_}
 use mathlib.Core.Path.{refl}
 use mathlib.Core.Bool.{Bool, true, false, not}
 use native.Mathlib.Omega.{arith}
-use Rattle.bits.specs.Syntax.{size}
+use Rattle.bits.specs.Syntax.{size, Ranged, bare}
 use Rattle.bits.specs.Law.{Any, Reads}
-use Rattle.bits.proofs.Laws.{take, take-if, done, ends, rest}
-use Rattle.traits.specs.Traits.{TraitsValues, traitsFields, readTraits}
-use Rattle.traits.specs.Kind.{KindValues, kindFields, KindLacks, readKind}
-use Rattle.traits.specs.Context.{ContextValues, contextFields, ContextLacks, readContext}
+use Rattle.bits.proofs.Laws.{take, take-if, done}
+use Rattle.traits.specs.Traits.{TraitsValues, traitsFields, readTraits, noTraits}
+use Rattle.traits.specs.Kind.{KindValues, kindFields, readKind, noKind}
+use Rattle.traits.specs.Context.{ContextValues, contextFields, readContext, noContext}
 
-pub traits-reads : Reads Any Any traitsFields readTraits
+pub traits-reads : Reads Any traitsFields readTraits
 unfolding traitsFields readTraits
 traits-reads =
     take (λ (v : TraitsValues). v .frame-type) λ t.
     take (λ (v : TraitsValues). v .show-frame) λ w.
     take (λ (v : TraitsValues). v .error-resilient-mode) λ e.
-    done _ (search) tt (λ b k y. rw (← (k .1), ← (k .0 .1), ← (k .0 .0 .1)))
+    done _ (search) (λ b k. rw (← (k .1), ← (k .0 .1), ← (k .0 .0 .1)))
 
-pub kind-reads : (shown resilient : Bool) → Reads Any (KindLacks shown resilient) (kindFields shown resilient) (readKind shown resilient)
-unfolding kindFields KindLacks readKind
+pub kind-reads : (shown resilient : Bool) → Reads Any (kindFields shown resilient) (readKind shown resilient)
+unfolding kindFields readKind
 kind-reads shown resilient =
     take-if (not shown) (λ v. not shown) (λ v k. refl) _ _ (λ (v : KindValues). v .intra-only) λ i.
-    ends (take-if (not resilient) (λ v. not resilient) (λ v k. refl) _ _ (λ (v : KindValues). v .reset-frame-context) λ r.
-    done _ (search) tt (λ b k y. rw (← (k .1), ← (k .0 .1))))
+    take-if (not resilient) (λ v. not resilient) (λ v k. refl) _ _ (λ (v : KindValues). v .reset-frame-context) λ r.
+    done _ (search) (λ b k. rw (← (k .1), ← (k .0 .1)))
 
-pub context-reads : (resilient : Bool) → Reads Any (ContextLacks resilient) (contextFields resilient) (readContext resilient)
-unfolding contextFields ContextLacks readContext
+pub context-reads : (resilient : Bool) → Reads Any (contextFields resilient) (readContext resilient)
+unfolding contextFields readContext
 context-reads resilient =
     take-if (not resilient) (λ v. not resilient) (λ v k. refl) _ _ (λ (v : ContextValues). v .refresh-frame-context) λ r.
-    rest (take-if (not resilient) (λ v. not resilient) (λ v k. refl) _ _ (λ (v : ContextValues). v .frame-parallel-decoding-mode) λ m.
+    take-if (not resilient) (λ v. not resilient) (λ v k. refl) _ _ (λ (v : ContextValues). v .frame-parallel-decoding-mode) λ m.
     take (λ (v : ContextValues). v .frame-context-idx) λ i.
-    done _ (search) tt (λ b k y. rw (← (k .1), ← (k .0 .1), ← (k .0 .0 .1))))
+    done _ (search) (λ b k. rw (← (k .1), ← (k .0 .1), ← (k .0 .0 .1)))
+
+-- all of them 0
+pub traits-nil : Ranged (bare (traitsFields noTraits))
+unfolding traitsFields
+traits-nil = omega arith
+
+pub kind-nil : (shown resilient : Bool) → Ranged (bare (kindFields shown resilient noKind))
+unfolding kindFields
+kind-nil shown resilient = omega arith
+
+pub context-nil : (resilient : Bool) → Ranged (bare (contextFields resilient noContext))
+unfolding contextFields
+context-nil resilient = omega arith
 
 -- how many bits they have at most
 pub traits-size : (v : TraitsValues) → size (traitsFields v) ≤ 3

@@ -2,9 +2,9 @@
 -- Assumes nothing.
 use Prim.Native.Nat.{ℕ}
 use mathlib.Core.Bool.{Bool, true, not}
-use mathlib.Core.List.{List, [], _∷_, _++_}
+use mathlib.Core.List.{List, [], _∷_}
 use Rattle.bits.specs.Refusal.{the}
-use Rattle.bits.specs.Syntax.{Field, fld, flag, optional, Coded}
+use Rattle.bits.specs.Syntax.{Field, fld, flag, fldIf}
 use Rattle.bits.specs.Reader.{Got, got, refused, pick, Reader, give, _>>=_, field, fieldIf}
 use Rattle.bits.specs.declared.Refusal.the-variants.{PastEnd}
 use Rattle.traits.specs.declared.Context.{Context}
@@ -16,20 +16,22 @@ pub record ContextValues : Type 0 where
   pub frame-parallel-decoding-mode : ℕ
   pub frame-context-idx : ℕ
 
-abbrev pub noContext : ContextValues
-noContext = record { refresh-frame-context = 0; frame-parallel-decoding-mode = 0; frame-context-idx = 0 }
-
 -- spelling, for a frame that is error resilient or not
 unfoldable pub contextFields : Bool → ContextValues → List Field
 contextFields resilient v =
-    optional (not resilient) (fld (the "refresh_frame_context") 1 (v .refresh-frame-context) ∷ [])
-    ++ (optional (not resilient) (fld (the "frame_parallel_decoding_mode") 1 (v .frame-parallel-decoding-mode) ∷ [])
-    ++ (fld (the "frame_context_idx") 2 (v .frame-context-idx) ∷ []))
+    fldIf (not resilient) (the "refresh_frame_context") 1 (v .refresh-frame-context)
+    ∷ fldIf (not resilient) (the "frame_parallel_decoding_mode") 1 (v .frame-parallel-decoding-mode)
+    ∷ fld (the "frame_context_idx") 2 (v .frame-context-idx)
+    ∷ []
 
-unfoldable pub ContextLacks : Bool → ContextValues → Type 0
-ContextLacks resilient v = Coded (not resilient) (v .refresh-frame-context) × Coded (not resilient) (v .frame-parallel-decoding-mode)
+-- record: an error-resilient frame is decoded in parallel
+abbrev pub parallelOf : Bool → ℕ → Bool
+parallelOf resilient n = pick resilient true (flag n)
 
 -- reading
+abbrev pub noContext : ContextValues
+noContext = record { refresh-frame-context = 0; frame-parallel-decoding-mode = 0; frame-context-idx = 0 }
+
 unfoldable pub readContext : Bool → Reader ContextValues
 readContext resilient = do
   r ← fieldIf (not resilient) (the "refresh_frame_context") 1
@@ -37,10 +39,7 @@ readContext resilient = do
   i ← field (the "frame_context_idx") 2
   give (record { refresh-frame-context = r; frame-parallel-decoding-mode = m; frame-context-idx = i })
 
--- record: an error-resilient frame is decoded in parallel
-abbrev pub parallelOf : Bool → ℕ → Bool
-parallelOf resilient n = pick resilient true (flag n)
-
+-- the code's answer
 unfoldable pub contextOf : Bool → ContextValues → Context
 contextOf resilient v =
     record {
@@ -49,7 +48,6 @@ contextOf resilient v =
       «frame_context_idx» = v .frame-context-idx;
     }
 
--- the code's answer
 abbrev pub viewContext : ContextRead → Got Context
 viewContext (Value a c) = got a (c .at)
 viewContext Short = refused PastEnd

@@ -2,9 +2,9 @@
 -- Assumes nothing.
 use Prim.Native.Nat.{ℕ}
 use mathlib.Core.Bool.{Bool, not}
-use mathlib.Core.List.{List, [], _∷_, _++_}
+use mathlib.Core.List.{List, [], _∷_}
 use Rattle.bits.specs.Refusal.{the}
-use Rattle.bits.specs.Syntax.{Field, fld, flag, optional, Coded}
+use Rattle.bits.specs.Syntax.{Field, flag, fldIf}
 use Rattle.bits.specs.Reader.{Got, got, refused, Reader, give, _>>=_, fieldIf}
 use Rattle.bits.specs.declared.Refusal.the-variants.{PastEnd}
 use Rattle.traits.specs.declared.Kind.{Kind}
@@ -15,30 +15,27 @@ pub record KindValues : Type 0 where
   pub intra-only : ℕ
   pub reset-frame-context : ℕ
 
-abbrev pub noKind : KindValues
-noKind = record { intra-only = 0; reset-frame-context = 0 }
-
 -- spelling, for a frame that is shown or not, and error resilient or not
 unfoldable pub kindFields : Bool → Bool → KindValues → List Field
 kindFields shown resilient v =
-    optional (not shown) (fld (the "intra_only") 1 (v .intra-only) ∷ [])
-    ++ optional (not resilient) (fld (the "reset_frame_context") 2 (v .reset-frame-context) ∷ [])
-
-unfoldable pub KindLacks : Bool → Bool → KindValues → Type 0
-KindLacks shown resilient v = Coded (not shown) (v .intra-only) × Coded (not resilient) (v .reset-frame-context)
+    fldIf (not shown) (the "intra_only") 1 (v .intra-only)
+    ∷ fldIf (not resilient) (the "reset_frame_context") 2 (v .reset-frame-context)
+    ∷ []
 
 -- reading
+abbrev pub noKind : KindValues
+noKind = record { intra-only = 0; reset-frame-context = 0 }
+
 unfoldable pub readKind : Bool → Bool → Reader KindValues
 readKind shown resilient = do
   i ← fieldIf (not shown) (the "intra_only") 1
   r ← fieldIf (not resilient) (the "reset_frame_context") 2
   give (record { intra-only = i; reset-frame-context = r })
 
--- record
+-- the code's answer
 unfoldable pub kindOf : KindValues → Kind
 kindOf v = record { «intra_only» = flag (v .intra-only); «reset_frame_context» = v .reset-frame-context }
 
--- the code's answer
 abbrev pub viewKind : KindRead → Got Kind
 viewKind (Value a c) = got a (c .at)
 viewKind Short = refused PastEnd

@@ -16,9 +16,6 @@ pub record TraitsValues : Type 0 where
   pub show-frame : ℕ
   pub error-resilient-mode : ℕ
 
-abbrev pub noTraits : TraitsValues
-noTraits = record { frame-type = 0; show-frame = 0; error-resilient-mode = 0 }
-
 -- spelling
 unfoldable pub traitsFields : TraitsValues → List Field
 traitsFields v =
@@ -28,6 +25,9 @@ traitsFields v =
     ∷ []
 
 -- reading
+abbrev pub noTraits : TraitsValues
+noTraits = record { frame-type = 0; show-frame = 0; error-resilient-mode = 0 }
+
 unfoldable pub readTraits : Reader TraitsValues
 readTraits = do
   t ← field (the "frame_type") 1
@@ -35,7 +35,7 @@ readTraits = do
   e ← field (the "error_resilient_mode") 1
   give (record { frame-type = t; show-frame = w; error-resilient-mode = e })
 
--- record: a key frame has type 0
+-- the code's answer: a key frame has type 0
 unfoldable pub traitsOf : TraitsValues → Traits
 traitsOf v =
     record {
@@ -44,7 +44,6 @@ traitsOf v =
       «error_resilient_mode» = flag (v .error-resilient-mode);
     }
 
--- the code's answer
 abbrev pub viewTraits : TraitsRead → Got Traits
 viewTraits (Value a c) = got a (c .at)
 viewTraits Short = refused PastEnd

@@ -1,4 +1,4 @@
-use Rattle.header.specs.Record.{shownHeader}
+use Rattle.header.specs.Parts.{shownHeader}
 use borrow.Author.Needs.{needs}
 use Rattle.header.proofs.shown_header.Statement.{statement}
 use Rattle.header.proofs.shown_header.Tie as tie
