@@ -67,19 +67,19 @@ unfolding
     Sync.readSync Traits.traitsFields Traits.readTraits Color.colorFields Color.readColor Color.colorOf
     Intra.intraColorFields Sampling.samplingFields Sampling.readSampling Refs.refFields Refs.refsFields Refs.readRef
     Refs.readRefs Refs.refOf Refs.refsOf Render.renderFields Render.readRender Size.sizeFields Size.readSize
-    Size.sizeOf SizeWithRefs.sizeWithRefsFields SizeWithRefs.readSizeWithRefs Sizes.sizesFields Sizes.readSizes
-    Filter.filterFields Filter.readFilter Filter.filterOf LoopDeltas.loopDeltasFields LoopFilter.loopFilterFields
-    LoopFilter.readLoopFilter LoopFilter.loopFilterOf Quantizer.quantizerFields Quantizer.readQuantizer
-    Quantizer.deltaQOf Quantizer.quantizerOf Quantizer.lossless Feature.featureFields Probs.probsFields Map.mapFields
-    SegmentFeatures.featuresFields Data.dataFields Segmentation.segmentationFields Segmentation.readSegmentation
-    Segmentation.segmentationOf Limits.first Limits.least Limits.most Tiles.tilesFields Tiles.readTiles
-    Inter.interFields Inter.readInter Key.keyFields Key.readKey IntraOnly.intraOnlyFields Motion.motionFields
-    Motion.readMotion Sources.sourcesFields Sources.readSources Lead.leadFields Lead.readLead Shot.shotFields
-    Shot.readShot Closing.closingFields Closing.readClosing Settings.settingsFields Settings.readSettings Slots.each
-    Answer.parsed Frame.frameFields Frame.readFrame Header.headerFields Header.readHeader Record.frameOf
-    Record.headerOf State.stateFrom State.stateAfter Little.little Layout.announced Layout.cut Layout.indexed
-    Layout.layoutOf Layout.start Split.filled Split.first Split.firstPast Split.placed Split.splitOf
-    Frames.stateBefore Frames.frameRead Frames.firstFault Chunk.chunkOf Features.featuresOf Features.featuresIn
-    Levels.levelsOf Levels.levelsAt Levels.deltaGrid Levels.pairOf Levels.segmentLevel Levels.moved Levels.scaled
-    Clamp.clampTo framesFrom
+    Size.sizeOf SizeWithRefs.foundAt SizeWithRefs.foundFields SizeWithRefs.readFound SizeWithRefs.sizeWithRefsFields
+    SizeWithRefs.readSizeWithRefs Sizes.sizesFields Sizes.readSizes Filter.filterFields Filter.readFilter
+    Filter.filterOf LoopDeltas.loopDeltasFields LoopFilter.loopFilterFields LoopFilter.readLoopFilter
+    LoopFilter.loopFilterOf Quantizer.quantizerFields Quantizer.readQuantizer Quantizer.deltaQOf Quantizer.quantizerOf
+    Quantizer.lossless Feature.featureFields Probs.probsFields Map.mapFields SegmentFeatures.featuresFields
+    Data.dataFields Segmentation.segmentationFields Segmentation.readSegmentation Segmentation.segmentationOf
+    Limits.first Limits.least Limits.most Tiles.tilesFields Tiles.readTiles Inter.interFields Inter.readInter
+    Key.keyFields Key.readKey IntraOnly.intraOnlyFields Motion.motionFields Motion.readMotion Sources.sourcesFields
+    Sources.readSources Lead.leadFields Lead.readLead Shot.shotFields Shot.readShot Closing.closingFields
+    Closing.readClosing Settings.settingsFields Settings.readSettings Slots.each Answer.parsed Frame.frameFields
+    Frame.readFrame Header.headerFields Header.readHeader Record.frameOf Record.headerOf State.stateFrom
+    State.stateAfter Little.little Layout.announced Layout.cut Layout.indexed Layout.layoutOf Layout.start
+    Split.filled Split.first Split.firstPast Split.placed Split.splitOf Frames.stateBefore Frames.frameRead
+    Frames.firstFault Chunk.chunkOf Features.featuresOf Features.featuresIn Levels.levelsOf Levels.levelsAt
+    Levels.deltaGrid Levels.pairOf Levels.segmentLevel Levels.moved Levels.scaled Clamp.clampTo framesFrom
 all-hold = (refl, (refl, (refl, (refl, (refl, (refl, (refl, (refl, (refl, ((refl, refl), ((refl, refl), ((refl, refl), ((refl, refl), ((refl, refl, refl), ((refl, refl, refl), tt)))))))))))))))

@@ -25,62 +25,62 @@ use Rattle.bits.proofs.Laws.{field-reads, group-if, take-in, branch-in, last, r
 use Rattle.bits.proofs.Steps.{value-read, short-read}
 use Rattle.coded.specs.Run.{runFields, readRun}
 
-module _ (x : String) (b : ℕ) (bit : b < 2) where
+module _ (x : String) where
   -- the first bit of a run of k
   first : ℕ → ℕ
-  first zero = 1 - b
-  first (suc k) = b
+  first zero = 0
+  first (suc k) = 1
 
   -- the same fields, by the first of them
-  unrolled : (i n k : ℕ) → (fld (item x i) 1 (first k) ∷ pick (eqb (first k) b) (runFields x b (i + 1) n (pred k)) []) ≡ runFields x b i (suc n) k
+  unrolled : (i n k : ℕ) → (fld (item x i) 1 (first k) ∷ pick (eqb (first k) 1) (runFields x (i + 1) n (pred k)) []) ≡ runFields x i (suc n) k
   unfolding runFields first
-  unrolled i n zero = rw (ne-eqb (1 - b) b (λ e. omega arith))
-  unrolled i n (suc k) = rw (eq-eqb b b refl)
+  unrolled i n zero = refl
+  unrolled i n (suc k) = refl
 
   -- what the first bit tells of the count
-  none-if : (k a : ℕ) → first k ≡ a → eqb a b ≡ false → k ≡ 0
+  none-if : (k a : ℕ) → first k ≡ a → eqb a 1 ≡ false → k ≡ 0
   unfolding first
   none-if zero a e f = refl
-  none-if (suc k) a e f = absurd (eqb-false a b f (sym e))
+  none-if (suc k) a e f = absurd (eqb-false a 1 f (sym e))
 
-  some-if : (k a : ℕ) → first k ≡ a → eqb a b ≡ true → k ≡ suc (pred k)
+  some-if : (k a : ℕ) → first k ≡ a → eqb a 1 ≡ true → k ≡ suc (pred k)
   unfolding first
-  some-if zero a e f = absurd (omega (arith, eqb-true a b f))
+  some-if zero a e f = absurd (omega (arith, eqb-true a 1 f))
   some-if (suc k) a e f = refl
 
-  -- a bit that isn't b is the other one
-  other : (a : ℕ) → a < 2 → eqb a b ≡ false → 1 - b ≡ a
-  other a l f = omega (arith, eqb-false a b f)
+  -- a bit that isn't 1 is 0
+  other : (a : ℕ) → a < 2 → eqb a 1 ≡ false → 0 ≡ a
+  other a l f = omega (arith, eqb-false a 1 f)
 
-  pub run-reads : (i n : ℕ) → Reads Any (runFields x b i n) (readRun x b i n)
+  pub run-reads : (i n : ℕ) → Reads Any (runFields x i n) (readRun x 1 i n)
   unfolding readRun
   run-reads i zero = unfold runFields in group-if false 0 ((omega arith, tt), tt) (field-reads {x = item x i} {n = 0})
   run-reads i (suc n) =
       respelt (λ k u. unrolled i n k)
       (take-in first λ a lt.
-      branch-in (eqb a b) (λ k. eqb (first k) b) (λ k u. rw (u .1))
-      (λ e. last (λ k. pred k) (run-reads (i + 1) n) (λ m. (tt, unfold first in sym (eqb-true a b e))) (λ m. refl) (λ k u. some-if k a (u .1) e))
+      branch-in (eqb a 1) (λ k. eqb (first k) 1) (λ k u. rw (u .1))
+      (λ e. last (λ k. pred k) (run-reads (i + 1) n) (λ m. (tt, unfold first in sym (eqb-true a 1 e))) (λ m. refl) (λ k u. some-if k a (u .1) e))
       (λ e. done _ (tt, unfold first in other a lt e) (λ k u. none-if k a (u .1) e)))
 
 -- of a run in range no more than n bits are counted
-pub run-few : (x : String) (b i n k : ℕ) → Ranged (runFields x b i n k) → k ≤ n
+pub run-few : (x : String) (i n k : ℕ) → Ranged (runFields x i n k) → k ≤ n
 unfolding runFields
-run-few x b i zero k h = omega (arith, h .0 .0)
-run-few x b i (suc n) zero h = omega arith
-run-few x b i (suc n) (suc k) h = omega (arith, run-few x b (i + 1) n k (h .1))
+run-few x i zero k h = omega (arith, h .0 .0)
+run-few x i (suc n) zero h = omega arith
+run-few x i (suc n) (suc k) h = omega (arith, run-few x (i + 1) n k (h .1))
 
 -- none that is 1
-pub run-nil : (x : String) (i n : ℕ) → Ranged (bare (runFields x 1 i n 0))
+pub run-nil : (x : String) (i n : ℕ) → Ranged (bare (runFields x i n 0))
 unfolding runFields
 run-nil x i zero = omega arith
 run-nil x i (suc n) = omega arith
 
 -- a run of at most n bits takes at most n
-pub run-size : (x : String) (b i n k : ℕ) → size (runFields x b i n k) ≤ n
+pub run-size : (x : String) (i n k : ℕ) → size (runFields x i n k) ≤ n
 unfolding runFields
-run-size x b i zero k = omega arith
-run-size x b i (suc n) zero = omega arith
-run-size x b i (suc n) (suc k) = omega (arith, run-size x b (i + 1) n k)
+run-size x i zero k = omega arith
+run-size x i (suc n) zero = omega arith
+run-size x i (suc n) (suc k) = omega (arith, run-size x (i + 1) n k)
 
 -- a loop that has counted k: what is left to read, from p on, and k more gives what the whole gives
 pub record Counted (x : String) (b n : ℕ) (s : List ℕ) (p₀ k p : ℕ) : Type 0 where

@@ -1,6 +1,6 @@
--- A run of equal bits, at most so many, which the other bit ends unless it is full: found_ref (VP9 6.2.5) and increment_tile_cols_log2 (6.2.13).
+-- A run of bits that are 1, at most so many, which a 0 ends unless it is full: increment_tile_cols_log2 (VP9 6.2.13).
 -- Assumes nothing.
-use Prim.Native.Nat.{ℕ, zero, suc, _+_, _-_}
+use Prim.Native.Nat.{ℕ, zero, suc, _+_}
 use Prim.Native.String.{String}
 use mathlib.Core.List.{List, [], _∷_}
 use lib.Dec.{eqb}
@@ -8,13 +8,13 @@ use Rattle.bits.specs.Refusal.{item}
 use Rattle.bits.specs.Syntax.{Field, fld}
 use Rattle.bits.specs.Reader.{pick, Reader, give, _>>=_, field}
 
--- spelling: k bits b, the first of them number i of the name x; what is counted past n of them has no bits, and so is 0
-unfoldable pub runFields : String → ℕ → ℕ → ℕ → ℕ → List Field
-runFields x b i zero k = fld (item x i) 0 k ∷ []
-runFields x b i (suc n) zero = fld (item x i) 1 (1 - b) ∷ []
-runFields x b i (suc n) (suc k) = fld (item x i) 1 b ∷ runFields x b (i + 1) n k
+-- spelling: k bits 1, the first of them number i of the name x; what is counted past n of them has no bits, and so is 0
+unfoldable pub runFields : String → ℕ → ℕ → ℕ → List Field
+runFields x i zero k = fld (item x i) 0 k ∷ []
+runFields x i (suc n) zero = fld (item x i) 1 0 ∷ []
+runFields x i (suc n) (suc k) = fld (item x i) 1 1 ∷ runFields x (i + 1) n k
 
--- reading: how many there are
+-- reading: how many bits b there are
 unfoldable pub readRun : String → ℕ → ℕ → ℕ → Reader ℕ
 readRun x b i zero = give 0
 readRun x b i (suc n) = do

@@ -1,6 +1,6 @@
 -- frame_size_with_refs(): the loop over its flags, the slots, and how it goes on after the flags.
 -- Assumes nothing.
-use Prim.Native.Nat.{ℕ, _≤_, _<_}
+use Prim.Native.Nat.{ℕ, _≤_, _<_, suc}
 use Prim.Native.String.{String}
 use mathlib.Core.Path.{_≡_, refl, sym, _∙_}
 use mathlib.Core.List.{List}
@@ -9,7 +9,7 @@ use borrow.Author.Tests.{ne-eqb}
 use lib.ListN.{length, List·getD-eq-default}
 use Rattle.bits.specs.declared.Cursor.{Cursor}
 use Rattle.bits.specs.declared.Refusal.the-variants.{PastEnd}
-use Rattle.bits.specs.Reader.{Got, Read, read, stopped, got, refused, bind, groupIf, over}
+use Rattle.bits.specs.Reader.{Got, Read, read, stopped, got, refused, bind, groupIf, over, Reader, give, _>>=_, pick, field, fieldIf}
 use Rattle.bits.proofs.Steps.{group-step, group-stop, tail}
 use Rattle.coded.specs.Run.{readRun}
 use Rattle.coded.proofs.Run.{Counted, counted-full}
@@ -22,13 +22,69 @@ use Rattle.sizes.specs.declared.Sizes.{Sizes}
 use Rattle.sizes.specs.Size.{noSizeValues, readFrameSize}
 use Rattle.sizes.specs.Render.{RenderValues, readRender}
 use Rattle.sizes.specs.Sizes.{readSizes, withRender, sizesOf}
-use Rattle.size_with_refs.specs.SizeWithRefs.{readSizeWithRefs, slotSize, refSlot, sizeWithRefsOf, FoundIs}
+use Rattle.size_with_refs.specs.SizeWithRefs.{readSizeWithRefs, slotSize, refSlot, sizeWithRefsOf, FoundIs, FoundValues, foundAt, readFound}
+use mathlib.Core.Bool.{Bool, true, false, _&&_}
+use lib.Dec.{eqb}
+use Rattle.bits.specs.Refusal.{item}
 
 -- a loop that counted all n
 pub all-counted : {x : String} {b n : ℕ} {s : List ℕ} {p₀ k p : ℕ} → Counted x b n s p₀ k p → n ≤ k → got n p ≡ over (λ a. a) (readRun x b 0 n s p₀)
 all-counted {x} {b} {n} {s} {p₀} {k} {p} l h =
     let kn : k ≡ n = omega arith in
     rw kn at (counted-full l h)
+
+-- the flags as a run of those that are 0: how many there are is the number of the reference
+module _ (s : List ℕ) where
+  abbrev run : ℕ → (n : ℕ) → Reader ℕ
+  run = readRun "found_ref" 0
+
+  abbrev flags : ℕ → ℕ → ℕ → FoundValues
+  flags l g a = record { last = l; golden = g; altref = a }
+
+  more : (f : ℕ → ℕ) (m : Read ℕ) → over f (bind m (λ k n. read (suc k) n)) ≡ over (λ k. f (suc k)) m
+  more f (read k n) = refl
+  more f (stopped w) = refl
+
+  third : (l g p : ℕ) → eqb l 0 ≡ true → eqb g 0 ≡ true → over (λ k. suc (suc k)) (run 2 1 s p) ≡ over foundAt (bind (field (item "found_ref" 2) 1 s p) (λ a n. read (flags l g a) n))
+  unfolding readRun foundAt
+  third l g p el eg = go (field (item "found_ref" 2) 1 s p)
+    where
+      bit : (a n : ℕ) (b : Bool) → eqb a 0 ≡ b → over (λ k. suc (suc k)) (pick (eqb a 0) (run 3 0 >>= λ k. give (suc k)) (give 0) s n) ≡ got (foundAt (flags l g a)) n
+      bit a n true ea = rw (ea, el, eg)
+      bit a n false ea = rw (ea, el, eg)
+
+      go : (x : Read ℕ) → over (λ k. suc (suc k)) (bind x (λ a n. pick (eqb a 0) (run 3 0 >>= λ k. give (suc k)) (give 0) s n)) ≡ over foundAt (bind x (λ a n. read (flags l g a) n))
+      go (stopped w) = refl
+      go (read a n) = bit a n (eqb a 0) refl
+
+  second : (l p : ℕ) → eqb l 0 ≡ true → over (λ k. suc k) (run 1 2 s p) ≡ over foundAt (bind (field (item "found_ref" 1) 1 s p) (λ g m. bind (fieldIf (eqb g 0) (item "found_ref" 2) 1 s m) (λ a n. read (flags l g a) n)))
+  unfolding readRun foundAt fieldIf
+  second l p el = go (field (item "found_ref" 1) 1 s p)
+    where
+      bit : (g n : ℕ) (b : Bool) → eqb g 0 ≡ b
+          → over (λ k. suc k) (pick (eqb g 0) (run 2 1 >>= λ k. give (suc k)) (give 0) s n) ≡ over foundAt (bind (fieldIf (eqb g 0) (item "found_ref" 2) 1 s n) (λ a m. read (flags l g a) m))
+      bit g n true eg = rw eg (more suc (run 2 1 s n) ∙ third l g n el eg)
+      bit g n false eg = rw (eg, el, eg)
+
+      go : (x : Read ℕ) → over (λ k. suc k) (bind x (λ g n. pick (eqb g 0) (run 2 1 >>= λ k. give (suc k)) (give 0) s n))
+          ≡ over foundAt (bind x (λ g m. bind (fieldIf (eqb g 0) (item "found_ref" 2) 1 s m) (λ a n. read (flags l g a) n)))
+      go (stopped w) = refl
+      go (read g n) = bit g n (eqb g 0) refl
+
+  pub found-run : (p : ℕ) (x : Got ℕ) → x ≡ over (λ k. k) (run 0 3 s p) → x ≡ over foundAt (readFound s p)
+  unfolding readRun foundAt fieldIf readFound
+  found-run p x e = e ∙ go (field (item "found_ref" 0) 1 s p)
+    where
+      bit : (l n : ℕ) (b : Bool) → eqb l 0 ≡ b
+          → over (λ k. k) (pick (eqb l 0) (run 1 2 >>= λ k. give (suc k)) (give 0) s n)
+          ≡ over foundAt (bind (fieldIf (eqb l 0) (item "found_ref" 1) 1 s n) (λ g m. bind (fieldIf (eqb l 0 && eqb g 0) (item "found_ref" 2) 1 s m) (λ a q. read (flags l g a) q)))
+      bit l n true el = rw el (more (λ k. k) (run 1 2 s n) ∙ second l n el)
+      bit l n false el = rw (el, el)
+
+      go : (x : Read ℕ) → over (λ k. k) (bind x (λ l n. pick (eqb l 0) (run 1 2 >>= λ k. give (suc k)) (give 0) s n))
+          ≡ over foundAt (bind x (λ l n. bind (fieldIf (eqb l 0) (item "found_ref" 1) 1 s n) (λ g m. bind (fieldIf (eqb l 0 && eqb g 0) (item "found_ref" 2) 1 s m) (λ a q. read (flags l g a) q))))
+      go (stopped w) = refl
+      go (read l n) = bit l n (eqb l 0) refl
 
 -- past the last slot
 pub no-slot : (slots : List FrameSize) (i : ℕ) (z : FrameSize) → length slots ≡ 8 → 8 ≤ i → z ≡ noSize → z ≡ slotSize slots i
@@ -46,26 +102,26 @@ module _ (slots : List FrameSize) (refs : Refs) (s : List ℕ) (p : ℕ) (r : Fo
     pub found-lt : i < 3
     found-lt = rw h at (e .0)
 
-    found-size : (frame : FrameSize) (slot q : ℕ) (b : RenderValues) → slot ≡ refSlot refs i → frame ≡ slotSize slots slot
-        → got (withRender frame b) q ≡ got (sizeWithRefsOf slots refs (record { found-ref = i; size = noSizeValues; render = b })) q
+    found-size : (frame : FrameSize) (slot q : ℕ) (a : FoundValues) (b : RenderValues) → i ≡ foundAt a → slot ≡ refSlot refs i → frame ≡ slotSize slots slot
+        → got (withRender frame b) q ≡ got (sizeWithRefsOf slots refs (record { found-ref = a; size = noSizeValues; render = b })) q
     unfolding sizeWithRefsOf
-    found-size frame slot q b es ef = rw (ne-eqb i 3 (λ z. omega (arith, found-lt)), ef, es)
+    found-size frame slot q a b ia es ef = rw (← ia, ne-eqb i 3 (λ z. omega (arith, found-lt)), ef, es)
 
     pub found-at : (frame : FrameSize) (slot : ℕ) (o : Got Sizes) → slot ≡ refSlot refs i → frame ≡ slotSize slots slot
         → o ≡ over (withRender frame) (readRender s (c .at)) → o ≡ over (sizeWithRefsOf slots refs) (readSizeWithRefs s p)
     unfolding readSizeWithRefs groupIf
     found-at frame slot o es ef eo =
-        group-step (λ k. k) (readRun "found_ref" 0 0 3 s p) (sizeWithRefsOf slots refs) _ i (c .at) o (rw h at (e .1)) λ a ia.
+        group-step foundAt (readFound s p) (sizeWithRefsOf slots refs) _ i (c .at) o (rw h at (e .1)) λ a ia.
         rw (← ia, ne-eqb i 3 (λ z. omega (arith, found-lt)))
-        (tail (sizeWithRefsOf slots refs) _ (withRender frame) (readRender s (c .at)) o eo (λ b q. found-size frame slot q b es ef))
+        (tail (sizeWithRefsOf slots refs) _ (withRender frame) (readRender s (c .at)) o eo (λ b q. found-size frame slot q a b ia es ef))
 
   -- at none
   pub found-none : (c : Cursor) (o : Got Sizes) → r ≡ Nothing c → o ≡ over sizesOf (readSizes s (c .at)) → o ≡ over (sizeWithRefsOf slots refs) (readSizeWithRefs s p)
   unfolding readSizeWithRefs groupIf readSizes sizesOf sizeWithRefsOf
   found-none c o h eo =
-      group-step (λ k. k) (readRun "found_ref" 0 0 3 s p) (sizeWithRefsOf slots refs) _ 3 (c .at) o (rw h at (e .1)) λ a ia.
-      rw (← ia) (eo ∙ alike _ _ _ _ (readFrameSize s (c .at)) (λ z q. alike _ _ _ _ (readRender s q) (λ b n. refl)))
+      group-step foundAt (readFound s p) (sizeWithRefsOf slots refs) _ 3 (c .at) o (rw h at (e .1)) λ a ia.
+      rw (← ia) (eo ∙ alike _ _ _ _ (readFrameSize s (c .at)) (λ z q. alike _ _ _ _ (readRender s q) (λ b n. rw (← ia))))
 
   pub found-short : r ≡ Short → refused PastEnd ≡ over (sizeWithRefsOf slots refs) (readSizeWithRefs s p)
   unfolding readSizeWithRefs
-  found-short h = group-stop (λ k. k) (readRun "found_ref" 0 0 3 s p) (sizeWithRefsOf slots refs) _ PastEnd (rw h at (e .1))
+  found-short h = group-stop foundAt (readFound s p) (sizeWithRefsOf slots refs) _ PastEnd (rw h at (e .1))

@@ -5,10 +5,9 @@ use mathlib.Core.Path.{_≡_}
 use mathlib.Core.List.{List, [], _∷_, _++_}
 use lib.Dec.{eqb}
 use lib.ListN.{getD}
-use Rattle.bits.specs.Syntax.{Field, optional}
-use Rattle.bits.specs.Reader.{Got, got, refused, Reader, give, _>>=_, groupIf, over}
+use Rattle.bits.specs.Syntax.{Field, optional, fld, fldIf}
+use Rattle.bits.specs.Reader.{Got, got, refused, Reader, give, _>>=_, groupIf, over, pick, field, fieldIf}
 use Rattle.bits.specs.declared.Refusal.the-variants.{PastEnd}
-use Rattle.coded.specs.Run.{runFields, readRun}
 use Rattle.settings.specs.FrameSize.{noSize}
 use Rattle.settings.specs.declared.size.FrameSize.{FrameSize}
 use Rattle.sizes.specs.Size.{SizeValues, noSizeValues, frameFields, readFrameSize, sizeOr}
@@ -18,18 +17,36 @@ use Rattle.size_with_refs.specs.declared.Found.{Found}
 use Rattle.size_with_refs.specs.declared.Found.the-variants.{At, Nothing, Short}
 use Rattle.refs.specs.declared.Refs.{Refs}
 use Rattle.sizes.specs.declared.Sizes.{Sizes}
+use mathlib.Core.Bool.{_&&_}
+use Rattle.bits.specs.Refusal.{item}
 
--- found-ref: how many of the flags are 0 before the one that is 1, so that it is the number of that reference; 3 where all three are 0, as where they are not there
+-- found_ref of each reference, up to the first that is 1
+pub record FoundValues : Type 0 where
+  pub last : ℕ
+  pub golden : ℕ
+  pub altref : ℕ
+
 pub record SizeWithRefsValues : Type 0 where
-  pub found-ref : ℕ
+  pub found-ref : FoundValues
   pub size : SizeValues
   pub render : RenderValues
 
+-- the number of the reference whose flag is 1; 3 where none is
+unfoldable pub foundAt : FoundValues → ℕ
+foundAt v = pick (eqb (v .last) 0) (pick (eqb (v .golden) 0) (pick (eqb (v .altref) 0) 3 2) 1) 0
+
 -- spelling
+unfoldable pub foundFields : FoundValues → List Field
+foundFields v =
+    fld (item "found_ref" 0) 1 (v .last)
+    ∷ fldIf (eqb (v .last) 0) (item "found_ref" 1) 1 (v .golden)
+    ∷ fldIf (eqb (v .last) 0 && eqb (v .golden) 0) (item "found_ref" 2) 1 (v .altref)
+    ∷ []
+
 unfoldable pub sizeWithRefsFields : SizeWithRefsValues → List Field
 sizeWithRefsFields v =
-    runFields "found_ref" 0 0 3 (v .found-ref)
-    ++ (optional (eqb (v .found-ref) 3) (frameFields (v .size))
+    foundFields (v .found-ref)
+    ++ (optional (eqb (foundAt (v .found-ref)) 3) (frameFields (v .size))
     ++ renderFields (v .render))
 
 -- record: the size that slot i remembers
@@ -42,16 +59,26 @@ refSlot refs k = getD (refs .last .idx ∷ refs .golden .idx ∷ refs .altref .i
 
 -- from the references and the remembered sizes
 abbrev pub foundSize : List FrameSize → Refs → SizeWithRefsValues → FrameSize
-foundSize slots refs v = sizeOr (eqb (v .found-ref) 3) (slotSize slots (refSlot refs (v .found-ref))) (v .size)
+foundSize slots refs v = sizeOr (eqb (foundAt (v .found-ref)) 3) (slotSize slots (refSlot refs (foundAt (v .found-ref)))) (v .size)
 
 -- reading
+abbrev pub noFound : FoundValues
+noFound = record { last = 0; golden = 0; altref = 0 }
+
 abbrev pub noSizeWithRefs : SizeWithRefsValues
-noSizeWithRefs = record { found-ref = 3; size = noSizeValues; render = noRender }
+noSizeWithRefs = record { found-ref = noFound; size = noSizeValues; render = noRender }
+
+unfoldable pub readFound : Reader FoundValues
+readFound = do
+  l ← field (item "found_ref" 0) 1
+  g ← fieldIf (eqb l 0) (item "found_ref" 1) 1
+  a ← fieldIf (eqb l 0 && eqb g 0) (item "found_ref" 2) 1
+  give (record { last = l; golden = g; altref = a })
 
 unfoldable pub readSizeWithRefs : Reader SizeWithRefsValues
 readSizeWithRefs = do
-  k ← readRun "found_ref" 0 0 3
-  z ← groupIf (eqb k 3) noSizeValues readFrameSize
+  k ← readFound
+  z ← groupIf (eqb (foundAt k) 3) noSizeValues readFrameSize
   r ← readRender
   give (record { found-ref = k; size = z; render = r })
 
@@ -59,7 +86,7 @@ readSizeWithRefs = do
 unfoldable pub sizeWithRefsOf : List FrameSize → Refs → SizeWithRefsValues → Sizes
 sizeWithRefsOf slots refs v = withRender (foundSize slots refs v) (v .render)
 
--- to the flags: found-ref
+-- to the flags
 abbrev pub viewFound : Found → Got ℕ
 viewFound (At i c) = got i (c .at)
 viewFound (Nothing c) = got 3 (c .at)
@@ -73,4 +100,4 @@ OfThree Short = Unit
 
 -- what `find_ref` answers
 abbrev pub FoundIs : List ℕ → ℕ → Found → Type 0
-FoundIs s p r = OfThree r × (viewFound r ≡ over (λ k. k) (readRun "found_ref" 0 0 3 s p))
+FoundIs s p r = OfThree r × (viewFound r ≡ over foundAt (readFound s p))

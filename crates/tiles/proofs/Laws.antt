@@ -16,18 +16,18 @@ use Rattle.coded.specs.Run.{runFields}
 pub tiles-reads : (width : ℕ) → Reads Any (tilesFields width) (readTiles width)
 unfolding tilesFields readTiles
 tiles-reads width =
-    then (λ (v : TilesValues). v .increment-tile-cols-log2) (run-reads increment 1 (omega arith) 0 (span width)) λ k.
+    then (λ (v : TilesValues). v .increment-tile-cols-log2) (run-reads increment 0 (span width)) λ k.
     take (λ (v : TilesValues). v .tile-rows-log2) λ r.
     take-if (flag r) (λ (v : TilesValues). flag (v .tile-rows-log2)) (λ v u. rw (u .1)) (the "increment_tile_rows_log2") 1 (λ (v : TilesValues). v .increment-tile-rows-log2) λ m.
     done _ (search) (λ b u. rw (← (u .1), ← (u .0 .1), ← (u .0 .0 .1)))
 
 pub tiles-nil : (width : ℕ) → Ranged (bare (tilesFields width noTiles))
 unfolding tilesFields
-tiles-nil width = bare-join (runFields increment 1 0 (span width) 0) _ (run-nil increment 0 (span width)) (omega arith)
+tiles-nil width = bare-join (runFields increment 0 (span width) 0) _ (run-nil increment 0 (span width)) (omega arith)
 
 pub tiles-size : (width : ℕ) (v : TilesValues) → size (tilesFields width v) ≤ 34
 unfolding tilesFields
 tiles-size width v =
-    let cols = run-size increment 1 0 (span width) (v .increment-tile-cols-log2) in
+    let cols = run-size increment 0 (span width) (v .increment-tile-cols-log2) in
     let rows = size-if (flag (v .tile-rows-log2)) 1 in
     rw size-append (omega (arith, most-le (superblocks width)))

@@ -61,7 +61,7 @@ module _ (width w lo hi : ℕ) (ew : w ≡ superblocks width) (el : lo ≡ least
 
       pub cols-fit : width < 2 ^ 32 → Fits w8 (lo + k)
       cols-fit small =
-          let few : k ≤ span width = run-few increment 1 0 (span width) k (run-reads increment 1 (omega arith) 0 (span width) .sound s p k (c .at) run .1 .ranged) in
+          let few : k ≤ span width = run-few increment 0 (span width) k (run-reads increment 0 (span width) .sound s p k (c .at) run .1 .ranged) in
           record { fits = omega (arith, lo-is, hi-is, cols-ordered small, most-le (superblocks width)) }
 
       pub cols-read : got (lo + k) (c .at) ≡ over (colsOf width) (readCols width s p)

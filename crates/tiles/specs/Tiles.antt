@@ -31,7 +31,7 @@ span width = most (superblocks width) - least (superblocks width)
 -- spelling
 unfoldable pub tilesFields : ℕ → TilesValues → List Field
 tilesFields width v =
-    runFields increment 1 0 (span width) (v .increment-tile-cols-log2)
+    runFields increment 0 (span width) (v .increment-tile-cols-log2)
     ++ (fld (the "tile_rows_log2") 1 (v .tile-rows-log2)
     ∷ fldIf (flag (v .tile-rows-log2)) (the "increment_tile_rows_log2") 1 (v .increment-tile-rows-log2)
     ∷ [])

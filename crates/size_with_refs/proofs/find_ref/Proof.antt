@@ -1,7 +1,7 @@
 use Prim.Native.Nat.{_-_}
 use borrow.Author.Needs.{needs}
 use Rattle.coded.proofs.Run.{Counted, counted-none, counted-more, counted-end, counted-short}
-use Rattle.size_with_refs.proofs.WithRefs.{all-counted}
+use Rattle.size_with_refs.proofs.WithRefs.{all-counted, found-run}
 use Rattle.size_with_refs.proofs.find_ref.Statement.{statement}
 use Rattle.size_with_refs.proofs.find_ref.Tie as tie
 
@@ -30,13 +30,13 @@ loop-again : tie.Need-loop-again Inv-loop μ-loop
 loop-again c = search counted-more
 
 returns : tie.Need-returns Inv-loop μ-loop
-returns c = (tt, search all-counted)
+returns c = (tt, search (found-run, all-counted))
 
 returns-2 : tie.Need-returns-2 Inv-loop μ-loop
-returns-2 c = (tt, search counted-short)
+returns-2 c = (tt, search (found-run, counted-short))
 
 returns-3 : tie.Need-returns-3 Inv-loop μ-loop
-returns-3 c = (search needs, search counted-end)
+returns-3 c = (search needs, search (found-run, counted-end))
 
 pub find-ref-spec : {M : Type 1} → statement M
 find-ref-spec =
