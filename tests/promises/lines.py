@@ -4,12 +4,15 @@
 Of a file of specs/, imports, comments and empty lines aren't counted. A comment at the margin that begins with one of
 WORDS says what the lines below it are for, down to the next such comment: `spelling` which bits are a header, `record`
 what is answered of its values, `refusals` which number a refused one gets. What stands under `reading` and `the code's
-answer` is tied to these by theorems and is not counted; `numbers` and `segments` are of calls that read no header."""
+answer` is tied to these by theorems and is not counted; `numbers` and `segments` are of calls that read no header.
+
+Usage: lines.py [--text]: with --text, the definitions themselves are printed that say which bits are a header, what is
+answered of one, and which number a refused one gets, in the order of reading."""
 
 import collections
-import glob
 import os
 import re
+import sys
 
 ROOT = os.path.abspath(os.path.join(os.path.dirname(os.path.abspath(__file__)), "..", ".."))
 WORDS = re.compile(r"-- (spelling|record|refusals|reading|the code's answer|numbers|segments)\b")
@@ -17,11 +20,11 @@ PROVED = ("reading", "the code's answer")
 
 # What is said of a header, in the order of reading, with what a file is for down to its first such comment.
 HEADER = [
-    ("spelling", "bits/Bit bits/Syntax bits/Many coded/Delta coded/Prob coded/Run start/* traits/* sampling/* color/* sizes/* refs/* "
+    ("spelling", "bits/Bit bits/Refusal bits/Syntax bits/Many coded/Delta coded/Prob coded/Run start/* traits/* sampling/* color/* sizes/* refs/* "
      "size_with_refs/* motion/* loop_deltas/* filter/* quantizer/* feature/* segment_map/Probs segment_map/Map segment_data/* "
      "segmentation/* tiles/* picture/* inter/* lead/* tail/* header/Frame header/Header header/Spelled"),
     ("record", "coded/Signed enums/* settings/* types/Header slots/* frame_header/* frame_state/* header/Record header/State"),
-    ("refusals", "bits/Refusal bits/Fault verdict/*"),
+    ("refusals", "bits/Fault verdict/*"),
     ("the code's answer", "header/Parts header/Answer segment_map/Answer"),
 ]
 OTHERS = [
@@ -32,26 +35,42 @@ OTHERS = [
 ]
 
 
-def believed(path, word):
-    """How many lines are for what."""
-    count = collections.Counter()
+def lines(path, word):
+    """Each line with what it is for, imports left out."""
     with open(path, encoding="utf-8") as file:
         for line in file:
             said = WORDS.match(line)
-            if said:
-                word = said.group(1)
-            elif line.strip() and not re.match(r"\s*--|use |pub mod ", line):
-                count[word] += 1
-    return count
+            word = said.group(1) if said else word
+            if not re.match(r"use |pub mod |-- Assumes nothing", line):
+                yield word, line
+
+
+def believed(path, word):
+    """How many lines are for what."""
+    return collections.Counter(word for word, line in lines(path, word) if line.strip() and not re.match(r"\s*--", line))
 
 
 def files(patterns):
+    """The files of some crates; where a star stands for a name, in the order of the crate's Lib.antt."""
     for pattern in patterns.split():
         crate, name = pattern.split("/")
-        yield from sorted(glob.glob(os.path.join(ROOT, "crates", crate, "specs", f"{name}.antt")))
+        folder = os.path.join(ROOT, "crates", crate, "specs")
+        names = [name] if name != "*" else re.findall(r"^pub mod (\w+)", open(os.path.join(folder, "Lib.antt"), encoding="utf-8").read(), re.M)
+        yield from (os.path.join(folder, f"{each}.antt") for each in names)
+
+
+def text():
+    """What is said of a header, file by file, with one empty line between two definitions."""
+    for word, patterns in HEADER:
+        for path in files(patterns):
+            shown = "".join(line for said, line in lines(path, word) if said in ("spelling", "record", "refusals"))
+            if re.search(r"^(?!--|$)", shown, re.M):
+                print(f"==== {os.path.relpath(path, ROOT)}\n" + re.sub(r"\n{3,}", "\n\n", shown))
 
 
 def main():
+    if sys.argv[1:] == ["--text"]:
+        return text()
     header = collections.Counter()
     for word, patterns in HEADER:
         for path in files(patterns):
