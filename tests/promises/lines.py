@@ -20,12 +20,9 @@ PROVED = ("reading", "the code's answer")
 
 # What is said of a header, in the order of reading, with what a file is for down to its first such comment.
 HEADER = [
-    ("spelling", "bits/Bit bits/Refusal bits/Syntax bits/Many coded/Delta coded/Prob coded/Run start/* traits/* sampling/* color/* sizes/* refs/* "
-     "size_with_refs/* motion/* loop_deltas/* filter/* quantizer/* feature/* segment_map/Probs segment_map/Map segment_data/* "
-     "segmentation/* tiles/* picture/* inter/* lead/* tail/* header/Frame header/Header header/Spelled"),
-    ("record", "coded/Signed enums/* settings/* types/Header slots/* frame_header/* frame_state/* header/Record header/State"),
+    ("spelling", "bits/Bit bits/Refusal bits/Syntax bits/Many grammar/Tables grammar/Header"),
+    ("record", "grammar/Settings grammar/Record enums/* settings/* types/Header slots/* header/Answer"),
     ("refusals", "bits/Fault verdict/*"),
-    ("the code's answer", "header/Parts header/Answer segment_map/Answer"),
 ]
 OTHERS = [
     ("a fresh state", "types/ReaderState"),

@@ -11,7 +11,7 @@ use lib.Dec.{eqb, ltb}
 use lib.ListN.{length, take, drop, length-drop}
 use lib.Seq.{take-all, length-take-le}
 use borrow.Author.Tests.{eqb-true, eqb-false, ltb-true, ltb-false, le-leb, lt-leb, lt-ltb, le-ltb}
-use Rattle.bits.specs.Reader.{pick}
+use Rattle.bits.specs.Syntax.{pick}
 use Rattle.coded.specs.Little.{little}
 use Rattle.ivf.specs.Record.{dataLength, dataEnd, recordAt}
 use Rattle.ivf.proofs.Cases.{at-end, cut, whole}

@@ -5,7 +5,7 @@ use mathlib.Core.Bool.{Bool}
 use mathlib.Core.List.{List}
 use lib.Dec.{ltb, eqb}
 use lib.ListN.{length}
-use Rattle.bits.specs.Reader.{pick}
+use Rattle.bits.specs.Syntax.{pick}
 use Rattle.coded.specs.Little.{little}
 use Rattle.arriving.specs.declared.Next.{Next}
 use Rattle.arriving.specs.declared.Next.the-variants.{End, More, Cut, Data, Long}

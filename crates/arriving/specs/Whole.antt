@@ -7,7 +7,7 @@ use mathlib.Core.Bool.{Bool, true, false, _&&_}
 use mathlib.Core.List.{List}
 use lib.Dec.{leb, ltb}
 use lib.ListN.{length}
-use Rattle.bits.specs.Reader.{pick}
+use Rattle.bits.specs.Syntax.{pick}
 use Rattle.ivf.specs.declared.RecordRead.{RecordRead}
 use Rattle.ivf.specs.declared.RecordRead.the-variants as read
 use Rattle.ivf.specs.Record.{dataStart, dataLength, recordOf}

@@ -3,15 +3,17 @@
 use Prim.Native.Nat.{ℕ, _+_, _≤_, _<_, _^_}
 use mathlib.Core.Path.{_≡_, refl, ap}
 use mathlib.Core.Logic.{_⊎_, inl, inr}
-use mathlib.Core.Bool.{Bool, true, false}
+use mathlib.Core.Bool.{Bool, true, false, _&&_}
 use mathlib.Core.List.{List, [], _∷_, _++_, append-assoc}
 use native.Mathlib.Nat.{add-zero, zero-add, add-assoc}
 use native.Mathlib.Omega.{arith}
+use lib.Dec.{eqb}
 use lib.ListN.{length, length-append}
 use lib.Pow.{pow-pos}
+use borrow.Author.Tests.{eqb-true}
 use Rattle.bits.specs.Bit.{Stands, spell}
 use Rattle.bits.specs.Refusal.{Name}
-use Rattle.bits.specs.Syntax.{Field, fld, widthIf, bare, optional, flat, size, Ranged}
+use Rattle.bits.specs.Syntax.{Field, fld, pick, bare, optional, flat, size, Ranged}
 use Rattle.bits.specs.Fault.{Fits, Reason, Fault, cut, wrong, Stops}
 use Rattle.bits.specs.Reader.{Read, read, stopped}
 use Rattle.bits.specs.Law.{Past}
@@ -54,7 +56,7 @@ optional-size false fs = omega (arith, bare-size fs)
 pub size-optional : (b : Bool) (fs : List Field) (n : ℕ) → size fs ≤ n → size (optional b fs) ≤ n
 size-optional b fs n h = omega (arith, optional-size b fs)
 
-pub size-if : (b : Bool) (w : ℕ) → widthIf b w ≤ w
+pub size-if : (b : Bool) (w : ℕ) → pick b w 0 ≤ w
 size-if true w = omega arith
 size-if false w = omega arith
 
@@ -75,12 +77,18 @@ ranged-right [] gs h = h
 ranged-right (f ∷ fs) gs h = ranged-right fs gs (h .1)
 
 -- of fields that are all 0, put together as the spelling is
-pub bare-join : (fs gs : List Field) → Ranged (bare fs) → Ranged (bare gs) → Ranged (bare (fs ++ gs))
-bare-join fs gs h k = rw (bare-append fs gs) (ranged-join (bare fs) (bare gs) h k)
+-- fields whose numbers are all 0 are in range without their bits
+abbrev pub zeros : List Field → Bool
+zeros [] = true
+zeros (f ∷ fs) = eqb (f .number) 0 && zeros fs
 
-pub bare-optional : (b : Bool) (fs : List Field) → Ranged (bare fs) → Ranged (bare (optional b fs))
-bare-optional true fs h = h
-bare-optional false fs h = rw (bare-twice fs) h
+pub all-zero : (fs : List Field) → zeros fs ≡ true → Ranged (bare fs)
+all-zero [] h = tt
+all-zero (f ∷ fs) h = go (eqb (f .number) 0) refl h (all-zero fs)
+  where
+    go : (b : Bool) → eqb (f .number) 0 ≡ b → b && zeros fs ≡ true → (zeros fs ≡ true → Ranged (bare fs)) → Ranged (bare (f ∷ fs))
+    go true e h rest = ((omega (arith, eqb-true (f .number) 0 e), tt), rest h)
+    go false e h rest = let z : _≡_ {A = ℕ} 0 1 = cc in absurd (omega arith)
 
 -- each number is below 2 to its field's width, whatever is demanded of it
 abbrev pub Within : List Field → Type 0

@@ -12,13 +12,13 @@ use lib.Pow.{pow-pos}
 use borrow.Author.Tests.{eq-eqb, ne-eqb, eqb-true, eqb-false}
 use Rattle.bits.specs.Bit.{Stands, spell, number, fits}
 use Rattle.bits.specs.Refusal.{Mark, Name}
-use Rattle.bits.specs.Syntax.{Field, fld, fixed, bare, fldIf, optional, size, Ranged}
+use Rattle.bits.specs.Syntax.{Field, fld, fixed, bare, fldIf, optional, size, Ranged, pick}
 use Rattle.bits.specs.Fault.{Fits, Reason, cutAt, wrongAt, Fault, cut, wrong, Stops}
-use Rattle.bits.specs.Reader.{Read, read, stopped, bind, pick, Reader, give, _>>=_, field, must, groupIf, fieldIf}
+use Rattle.bits.specs.Reader.{Read, read, stopped, bind, Reader, give, _>>=_, field, must, groupIf, fieldIf}
 use Rattle.bits.specs.Law.{Any, Past, Reads}
 use Rattle.bits.proofs.Number.{number-lt, fits-no, fits-short}
 use Rattle.bits.proofs.Stand.{spells-number, number-spelt}
-use Rattle.bits.proofs.Fields.{size-append, bare-size, bare-append, bare-twice, ranged-join, ranged-left, ranged-right, Within, ranged-within, bare-within, fits-join, fits-left, fits-right, bare-fits, fits-nil, stops-nil, bare-stops, stops-left, stops-right, stops-in, stops-one, one-stops, parts, past-none, bare-first, past-one, past-less}
+use Rattle.bits.proofs.Fields.{size-append, bare-size, bare-append, bare-twice, zeros, all-zero, ranged-join, ranged-left, ranged-right, Within, ranged-within, bare-within, fits-join, fits-left, fits-right, bare-fits, fits-nil, stops-nil, bare-stops, stops-left, stops-right, stops-in, stops-one, one-stops, parts, past-none, bare-first, past-one, past-less}
 
 -- what a field at p is: its number, or cut short
 pub field-got : (x : Name) (s : List ℕ) (p n : ℕ) → fits s p n ≡ true → field x n s p ≡ read (number s p n) (p + n)
@@ -321,6 +321,11 @@ respelt same law = record {
   only = λ b c kb kc y z. law .only b c kb kc (rw (same b kb) y) (rw (same c kc) z);
 }
 
+-- one syntax after another, whose spelling h is said in another way, which what is known makes the same
+pub then-as : {A B : Type 0} {K : B → Type 0} {f : A → List Field} {r : Reader A} {g : B → List Field} {k : A → Reader B} (h : B → List Field) (q : B → A) → ((b : B) → K b → f (q b) ≡ h b)
+    → Reads Any f r → ((a : A) → Reads (λ b. K b × (q b ≡ a)) g (k a)) → Reads K (λ b. h b ++ g b) (r >>= k)
+then-as h q same one two = respelt (λ b kb. rw (same b kb)) (then q one two)
+
 -- one of two, by a test t on the value that what is known decides
 pub branch-in : {B : Type 0} {K : B → Type 0} {f g : B → List Field} {r q : Reader B} (c : Bool) (t : B → Bool) → ((b : B) → K b → t b ≡ c)
     → (c ≡ true → Reads K f r) → (c ≡ false → Reads K g q) → Reads K (λ b. pick (t b) (f b) (g b)) (pick c r q)
@@ -332,9 +337,9 @@ pub ends : {B : Type 0} {K : B → Type 0} {g : B → List Field} {r : Reader B}
 ends law = respelt (λ b k. append-nil _) law
 
 -- a syntax that is there only if a test holds; d is the value whose fields are all 0
-pub group-if : {A : Type 0} {f : A → List Field} {r : Reader A} (c : Bool) (d : A) → Ranged (bare (f d)) → Reads Any f r → Reads Any (λ a. optional c (f a)) (pick c r (give d))
-group-if true d nil one = one
-group-if {A} {f} false d nil one = record {
+pub group-if : {A : Type 0} {f : A → List Field} {r : Reader A} (c : Bool) (d : A) → zeros (f d) ≡ true → Reads Any f r → Reads Any (λ a. optional c (f a)) (pick c r (give d))
+group-if true d z one = one
+group-if {A} {f} false d z one = let nil = all-zero (f d) z in record {
   some = (d, tt, nil);
   sound = λ s p a e h.
       let da : d ≡ a = cc in
@@ -350,19 +355,29 @@ group-if {A} {f} false d nil one = record {
 -- the same of one field
 field-if : (c : Bool) (x : Name) (n : ℕ) → Reads Any (λ a. fldIf c x n a ∷ []) (pick c (field x n) (give 0))
 field-if true x n = field-reads
-field-if false x n = group-if false 0 ((omega arith, tt), tt) (field-reads {x = x} {n = n})
+field-if false x n = group-if false 0 refl (field-reads {x = x} {n = n})
 
 -- and then the rest, where what is known decides the test
 module _ {B : Type 0} {K : B → Type 0} {g : B → List Field} (c : Bool) (t : B → Bool) (known : (b : B) → K b → t b ≡ c) where
-  pub next-if : {A : Type 0} {f : A → List Field} {r : Reader A} {k : A → Reader B} (d : A) → Ranged (bare (f d)) → (q : B → A)
+  pub next-if : {A : Type 0} {f : A → List Field} {r : Reader A} {k : A → Reader B} (d : A) → zeros (f d) ≡ true → (q : B → A)
       → Reads Any f r → ((a : A) → Reads (λ b. K b × (q b ≡ a)) g (k a)) → Reads K (λ b. optional (t b) (f (q b)) ++ g b) (groupIf c d r >>= k)
   unfolding groupIf
-  next-if d nil q one two = respelt (λ b kb. rw (known b kb)) (then q (group-if c d nil one) two)
+  next-if d z q one two = respelt (λ b kb. rw (known b kb)) (then q (group-if c d z one) two)
 
   pub take-if : {k : ℕ → Reader B} (x : Name) (n : ℕ) (q : B → ℕ)
       → ((a : ℕ) → Reads (λ b. K b × (q b ≡ a)) g (k a)) → Reads K (λ b. fldIf (t b) x n (q b) ∷ g b) (fieldIf c x n >>= k)
   unfolding fieldIf
   take-if x n q two = respelt (λ b kb. rw (known b kb)) (then q (field-if c x n) two)
+
+-- a field, and a syntax, that are there by a test on numbers given from outside
+module _ {B : Type 0} {K : B → Type 0} {g : B → List Field} (c : Bool) where
+  pub take-by : {k : ℕ → Reader B} (x : Name) (n : ℕ) (q : B → ℕ)
+      → ((a : ℕ) → Reads (λ b. K b × (q b ≡ a)) g (k a)) → Reads K (λ b. fldIf c x n (q b) ∷ g b) (fieldIf c x n >>= k)
+  take-by = take-if c (λ b. c) (λ b k. refl)
+
+  pub next-by : {A : Type 0} {f : A → List Field} {r : Reader A} {k : A → Reader B} (d : A) → zeros (f d) ≡ true → (q : B → A)
+      → Reads Any f r → ((a : A) → Reads (λ b. K b × (q b ≡ a)) g (k a)) → Reads K (λ b. optional c (f (q b)) ++ g b) (groupIf c d r >>= k)
+  next-by = next-if c (λ b. c) (λ b k. refl)
 
 module _ {A : Type 0} {f : A → List Field} {r : Reader A} (law : Reads Any f r) where
   -- no two values fit at one place

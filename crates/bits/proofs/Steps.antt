@@ -23,7 +23,8 @@ use Rattle.bits.specs.Bit.{number, fits}
 use Rattle.bits.specs.Refusal.{Mark, markRefusal, Name, the}
 use Rattle.bits.specs.Fault.{cutAt}
 use Rattle.bits.specs.Read.{readBits, readBitsIf}
-use Rattle.bits.specs.Reader.{Got, Read, read, stopped, got, refused, pick, bind, over, alter, viewNext, Reader, field, must, fieldIf, groupIf}
+use Rattle.bits.specs.Reader.{Got, Read, read, stopped, got, refused, bind, over, alter, viewNext, Reader, field, must, fieldIf, groupIf}
+use Rattle.bits.specs.Syntax.{pick}
 use lib.Pow.{pow-pos}
 use Rattle.bits.proofs.Laws.{field-reads, field-got, field-cut}
 use Rattle.bits.proofs.Bits.{the-type}

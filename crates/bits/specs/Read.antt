@@ -7,7 +7,7 @@ use lib.Dec.{leb}
 use Rattle.bits.specs.declared.Bits.{Bits}
 use Rattle.bits.specs.declared.Bits.the-variants.{Value, Short, TooWide}
 use Rattle.bits.specs.Bit.{number, fits}
-use Rattle.bits.specs.Reader.{pick}
+use Rattle.bits.specs.Syntax.{pick}
 
 -- over 31 bits are too wide; fewer are short, or their number and the place past them
 unfoldable pub readBits : List ℕ → ℕ → ℕ → Bits

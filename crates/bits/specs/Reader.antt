@@ -8,15 +8,11 @@ use Rattle.bits.specs.declared.Next.{Next}
 use Rattle.bits.specs.declared.Next.the-variants.{At, Refused}
 use Rattle.bits.specs.declared.Refusal.{Refusal}
 use Rattle.bits.specs.Bit.{number, fits}
+use Rattle.bits.specs.Syntax.{pick}
 use Rattle.bits.specs.Refusal.{Mark, Name}
 use Rattle.bits.specs.Fault.{Reason, cutAt, wrongAt}
 
--- one of two, by a test
-abbrev pub pick : {A : Type 0} → Bool → A → A → A
-pick true a b = a
-pick false a b = b
-
--- the same of two statements
+-- one of two statements, by a test
 abbrev pub pickT : Bool → Type 0 → Type 0 → Type 0
 pickT true a b = a
 pickT false a b = b

@@ -36,17 +36,17 @@ abbrev pub bare : List Field → List Field
 bare [] = []
 bare (f ∷ fs) = fld (f .name) 0 (f .number) ∷ bare fs
 
--- a width, and fields, that are there only if b holds
-abbrev pub widthIf : Bool → ℕ → ℕ
-widthIf true w = w
-widthIf false w = 0
+-- one of two, by a test
+abbrev pub pick : {A : Type 0} → Bool → A → A → A
+pick true a b = a
+pick false a b = b
 
+-- a field, and fields, that are there only if b holds
 abbrev pub fldIf : Bool → Name → ℕ → ℕ → Field
-fldIf b x w n = fld x (widthIf b w) n
+fldIf b x w n = fld x (pick b w 0) n
 
 abbrev pub optional : Bool → List Field → List Field
-optional true fs = fs
-optional false fs = bare fs
+optional b fs = pick b fs (bare fs)
 
 abbrev pub Meets : Demand → ℕ → Type 0
 Meets anything n = Unit

@@ -13,7 +13,7 @@ use Rattle.settings.specs.LoopFilterParams.{defaultFilter, resetFilter}
 use Rattle.settings.specs.SegmentationParams.{defaultSegmentation}
 use Rattle.types.specs.Header.{defaultHeader}
 use Rattle.types.specs.ReaderState.{freshState}
-use Rattle.tiles.specs.Limits.{superblocks, least, most}
+use Rattle.grammar.specs.Tables.{superblocks, least, most}
 use Rattle.chunk_read.specs.declared.ChunkRead.{ChunkRead}
 use Rattle.chunk_read.specs.declared.Answer.{Answer}
 use Rattle.chunk_read.specs.declared.Answer.the-variants as answer

@@ -7,7 +7,7 @@ use mathlib.Core.List.{List, []}
 use lib.Dec.{leb}
 use lib.ListN.{length, take, drop}
 use denote.Ref.{RefT, ptr, now}
-use Rattle.bits.specs.Reader.{pick}
+use Rattle.bits.specs.Syntax.{pick}
 
 -- a part lies inside: its offset is at most the length, and its size at most what is left
 abbrev pub inside : List ℕ → ℕ → ℕ → Bool

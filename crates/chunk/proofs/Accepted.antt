@@ -7,10 +7,8 @@ use native.Mathlib.Numerals.{add-one}
 use lib.ListN.{getD}
 use Rattle.types.specs.Header.{defaultHeader}
 use Rattle.types.specs.declared.state.ReaderState.{ReaderState}
-use Rattle.header.specs.Header.{HeaderValues}
-use Rattle.header.specs.Spelled.{Spelled}
-use Rattle.header.specs.Record.{headerOf}
-use Rattle.header.specs.State.{stateAfter}
+use Rattle.grammar.specs.Header.{HeaderValues, Spelled}
+use Rattle.grammar.specs.Record.{headerOf, stateAfter}
 use Rattle.header.specs.declared.HeaderRead.{HeaderRead}
 use Rattle.header.proofs.Theorems.{accepts}
 use Rattle.index.specs.declared.Answer.the-variants as split

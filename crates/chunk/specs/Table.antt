@@ -9,8 +9,7 @@ use Rattle.bits.specs.Syntax.{Ranged}
 use Rattle.bits.specs.Fault.{CutOff, Unmarked}
 use Rattle.settings.specs.declared.size.FrameSize.{FrameSize}
 use Rattle.types.specs.declared.state.ReaderState.{ReaderState}
-use Rattle.header.specs.Header.{HeaderValues, headerFields}
-use Rattle.header.specs.Spelled.{Spelled}
+use Rattle.grammar.specs.Header.{HeaderValues, headerFields, Spelled}
 use Rattle.index.specs.declared.Answer.the-variants as split
 use Rattle.index.specs.Split.{splitOf}
 use Rattle.index.specs.Table.{When as SplitWhen}

@@ -18,12 +18,11 @@ use Rattle.bits.specs.declared.Cursor.{Cursor}
 use Rattle.bits.specs.Read.{readBitsIf}
 use Rattle.bits.specs.Reader.{got}
 use Rattle.bits.proofs.Steps.{value-if-lt}
-use Rattle.coded.specs.Signed.{signed}
+use Rattle.grammar.specs.Settings.{signed, probOf}
 use Rattle.coded.specs.declared.Delta.{Delta}
 use Rattle.coded.specs.declared.DeltaRead.{DeltaRead}
 use Rattle.coded.specs.declared.DeltaRead.the-variants.{Value as Narrow, Short, TooWide}
 use Rattle.coded.specs.Delta.{deltaOf, NarrowIs, DeltaIs}
-use Rattle.coded.specs.Prob.{probOf}
 use Rattle.coded.proofs.Signed.{signed-fits}
 
 -- a width of at most 7 is one that a bit read takes

@@ -8,7 +8,7 @@ use lib.IntN.{pos, negℤ, _-ℤ_, +ℤ-idl}
 use mir.Val.{SFits, hbits, toZ, ofZ}
 use mir.Facts.{toZ-pos, toZ-ofZ}
 use mir.Syntax.{Width}
-use Rattle.coded.specs.Signed.{signed}
+use Rattle.grammar.specs.Settings.{signed}
 
 module _ (w : Width) (m : ℕ) (small : m < 2 ^ hbits w) where
   neg-fits : SFits w (negℤ (pos m))

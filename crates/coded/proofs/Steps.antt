@@ -15,7 +15,9 @@ use Rattle.bits.proofs.Steps.{group-step, group-stop}
 use Rattle.coded.specs.declared.Delta.{Delta}
 use Rattle.coded.specs.declared.DeltaRead.{DeltaRead}
 use Rattle.coded.specs.declared.DeltaRead.the-variants.{Value, Short, TooWide}
-use Rattle.coded.specs.Delta.{DeltaValues, readDelta, deltaOf, viewDelta, NarrowIs}
+use Rattle.coded.specs.Delta.{deltaOf, viewDelta, NarrowIs}
+use Rattle.grammar.specs.Tables.{DeltaValues}
+use Rattle.grammar.specs.Reading.{readDelta}
 use Rattle.coded.proofs.DeltaRead.{the-type}
 
 no-delta : {x : Got Delta} (r : DeltaRead) → viewDelta r ≡ x → OneOf (1 ∷ 2 ∷ []) (tagOf the-type r) → refused PastEnd ≡ x

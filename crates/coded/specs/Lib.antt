@@ -1,5 +1,3 @@
-pub mod Signed
 pub mod Delta
 pub mod Prob
-pub mod Run
 pub mod Little

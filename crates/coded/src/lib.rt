@@ -1,9 +1,8 @@
 // Fields that are coded: a signed number, a delta behind a flag, a probability behind a flag, and numbers of bytes, low byte first.
-ghost use Prim.Native.Nat.{ℕ, _+_, _<_, _≤_};
+ghost use Prim.Native.Nat.{_+_, _<_, _≤_};
 ghost use mathlib.Core.Path.{_≡_};
 ghost use lib.ListN.{length};
-ghost use Rattle.bits.specs.Refusal.{Name};
-ghost use Rattle.coded.specs.Signed.{signed};
+ghost use Rattle.grammar.specs.Settings.{signed};
 ghost use Rattle.coded.specs.Delta.{NarrowIs, DeltaIs};
 ghost use Rattle.coded.specs.Prob.{ProbIs};
 ghost use Rattle.coded.specs.Little.{little, readLittle};

@@ -7,7 +7,8 @@ use Rattle.bits.specs.Reader.{Got, got, refused, over}
 use Rattle.color.specs.declared.Color.{Color}
 use Rattle.color.specs.declared.ColorRead.{ColorRead}
 use Rattle.color.specs.declared.ColorRead.the-variants.{Value, Short}
-use Rattle.color.specs.Color.{readColor, colorOf, viewColor}
+use Rattle.color.specs.Color.{colorOf, viewColor}
+use Rattle.grammar.specs.Reading.{readColor}
 use Rattle.color.specs.Intra.{readIntraColor, intraColorOf}
 
 -- the answer that an answer of the definition is

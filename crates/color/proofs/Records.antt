@@ -10,8 +10,11 @@ use Rattle.enums.specs.declared.BitDepth.{BitDepth}
 use Rattle.enums.specs.declared.ColorSpace.{ColorSpace}
 use Rattle.sampling.specs.declared.Sampling.{Sampling}
 use Rattle.color.specs.declared.ColorRead.{ColorRead}
-use Rattle.sampling.specs.Sampling.{SamplingValues, samplingOf}
-use Rattle.color.specs.Color.{depthOf, readColor, colorOf, viewColor}
+use Rattle.sampling.specs.Sampling.{samplingOf}
+use Rattle.grammar.specs.Tables.{SamplingValues}
+use Rattle.color.specs.Color.{colorOf, viewColor}
+use Rattle.grammar.specs.Record.{depthOf}
+use Rattle.grammar.specs.Reading.{readColor}
 use Rattle.color.specs.Intra.{fixedColor, readIntraColor, intraColorOf}
 
 pub color-read : (profile d n p : ℕ) (v : SamplingValues) (depth : BitDepth) (space : ColorSpace) (a : Sampling) → depth ≡ depthOf profile d → space ≡ colorSpaceOf n → a ≡ samplingOf profile n v

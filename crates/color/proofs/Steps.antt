@@ -13,7 +13,9 @@ use Rattle.bits.proofs.Steps.{group-step, group-stop}
 use Rattle.color.specs.declared.Color.{Color}
 use Rattle.color.specs.declared.ColorRead.{ColorRead}
 use Rattle.color.specs.declared.ColorRead.the-variants.{Value, Short}
-use Rattle.color.specs.Color.{ColorValues, readColor, colorOf, viewColor}
+use Rattle.color.specs.Color.{colorOf, viewColor}
+use Rattle.grammar.specs.Tables.{ColorValues}
+use Rattle.grammar.specs.Reading.{readColor}
 use Rattle.color.specs.Intra.{readIntraColor, intraColorOf}
 use Rattle.color.proofs.ColorRead.{the-type}
 

@@ -2,23 +2,20 @@
 -- Assumes nothing.
 use Prim.Native.Nat.{ℕ}
 use mathlib.Core.Bool.{Bool, true}
-use mathlib.Core.List.{List}
 use lib.Dec.{ltb}
-use Rattle.bits.specs.Syntax.{Field, optional}
-use Rattle.bits.specs.Reader.{pick, Reader, groupIf}
+use Rattle.bits.specs.Syntax.{pick}
+use Rattle.bits.specs.Reader.{Reader, groupIf}
 use Rattle.enums.specs.declared.BitDepth.the-variants.{Depth8}
 use Rattle.enums.specs.declared.ColorRange.the-variants.{StudioSwing}
 use Rattle.enums.specs.declared.ColorSpace.the-variants.{Bt601}
-use Rattle.color.specs.Color.{ColorValues, noColor, colorFields, readColor, colorOf}
+use Rattle.color.specs.Color.{colorOf}
+use Rattle.grammar.specs.Tables.{ColorValues}
+use Rattle.grammar.specs.Reading.{noColor, readColor}
 use Rattle.color.specs.declared.Color.{Color}
 
 -- profiles over 0 code the colour
 abbrev pub colored : ℕ → Bool
 colored profile = ltb 0 profile
-
--- spelling
-unfoldable pub intraColorFields : ℕ → ColorValues → List Field
-intraColorFields profile v = optional (colored profile) (colorFields profile v)
 
 -- record: profile 0 has depth 8, colour space 1, range 0 and both subsamplings
 abbrev pub fixedColor : Color

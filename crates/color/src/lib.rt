@@ -1,7 +1,9 @@
 // color_config(): depth, colour space, range and subsampling.
 ghost use mathlib.Core.Path.{_≡_};
 ghost use Rattle.bits.specs.Reader.{over};
-ghost use Rattle.color.specs.Color.{depthOf, readColor, colorOf, viewColor};
+ghost use Rattle.color.specs.Color.{colorOf, viewColor};
+ghost use Rattle.grammar.specs.Record.{depthOf};
+ghost use Rattle.grammar.specs.Reading.{readColor};
 ghost use Rattle.color.specs.Intra.{readIntraColor, intraColorOf};
 use bits::Bits;
 use bits::Cursor;

@@ -15,9 +15,10 @@ use Rattle.bits.specs.declared.Bits.the-variants.{Value}
 use Rattle.bits.specs.declared.Cursor.{Cursor}
 use Rattle.bits.specs.Read.{readBitsIf}
 use Rattle.bits.specs.Reader.{got}
-use Rattle.coded.specs.Signed.{signed}
+use Rattle.grammar.specs.Settings.{signed}
 use Rattle.coded.proofs.Signed.{signed-fits}
-use Rattle.feature.specs.Feature.{featureBits, featureOf}
+use Rattle.feature.specs.Feature.{featureOf}
+use Rattle.grammar.specs.Tables.{featureBits}
 use Rattle.feature.proofs.Tables.{value-small}
 
 -- a feature, whose value is unsigned before its sign

@@ -1,6 +1,6 @@
 -- The tables of the features, and a value of the width that they give.
 -- Assumes nothing.
-use Prim.Native.Nat.{ℕ, zero, suc, _≤_, _<_}
+use Prim.Native.Nat.{ℕ, _≤_, _<_}
 use mathlib.Core.Path.{_≡_, refl, sym}
 use mathlib.Core.Bool.{Bool, true, _&&_}
 use mathlib.Core.List.{List, [], _∷_}
@@ -19,18 +19,11 @@ use Rattle.bits.specs.Read.{readBitsIf}
 use Rattle.bits.specs.Reader.{Got, Read, refused, bind, over, fieldIf}
 use Rattle.bits.proofs.Bits.{the-type}
 use Rattle.bits.proofs.Steps.{value-if-lt, step-if, stop-if}
-use Rattle.feature.specs.Feature.{featureBits}
+use Rattle.grammar.specs.Tables.{featureBits}
+use Rattle.grammar.proofs.Laws.{bits-small}
 
 pub past-table : {A : Type 0} (l : List A) (j : ℕ) (d : A) → length l ≤ j → d ≡ getD l j d
 past-table l j d h = sym (List·getD-eq-default l d h)
-
-pub bits-small : (j : ℕ) → featureBits j ≤ 8
-unfolding featureBits
-bits-small zero = omega arith
-bits-small (suc zero) = omega arith
-bits-small (suc (suc zero)) = omega arith
-bits-small (suc (suc (suc zero))) = omega arith
-bits-small (suc (suc (suc (suc j)))) = omega arith
 
 pub sign-coded : (on x y : Bool) → on ≡ true → x ≡ y → x ≡ on && y
 sign-coded on x y h e = rw h e

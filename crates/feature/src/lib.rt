@@ -1,7 +1,8 @@
 // One feature of one segment in segmentation_params().
 ghost use mathlib.Core.Bool.{_&&_};
 ghost use mathlib.Core.Path.{_≡_};
-ghost use Rattle.feature.specs.Feature.{featureBits, featureSigned, FeatureIs};
+ghost use Rattle.feature.specs.Feature.{FeatureIs};
+ghost use Rattle.grammar.specs.Tables.{featureBits, featureSigned};
 use bits::Bits;
 use bits::Cursor;
 use settings::SegmentationParams;

@@ -9,10 +9,12 @@ use Rattle.bits.specs.Reader.{over}
 use Rattle.settings.specs.declared.loop_filter.LoopFilterParams.{LoopFilterParams}
 use Rattle.loop_deltas.specs.declared.LoopFilterRead.{LoopFilterRead}
 use Rattle.loop_deltas.specs.LoopDeltas.{viewLoopFilter}
-use Rattle.filter.specs.LoopFilter.{readLoopFilter, loopFilterOf}
+use Rattle.grammar.specs.Reading.{readLoopFilter}
+use Rattle.grammar.specs.Settings.{loopFilterOf}
 use Rattle.loop_deltas.proofs.Exact.{one-kept}
+use mathlib.Core.Bool.{false}
 
 pub one-loop-filter : (old : LoopFilterParams) (s : List ℕ) (p : ℕ) (r q : LoopFilterRead)
-    → viewLoopFilter r ≡ over (loopFilterOf old) (readLoopFilter s p) → ((e : Refusal) → r .next ≡ Refused e → r .lf ≡ old)
-    → viewLoopFilter q ≡ over (loopFilterOf old) (readLoopFilter s p) → ((e : Refusal) → q .next ≡ Refused e → q .lf ≡ old) → r ≡ q
+    → viewLoopFilter r ≡ over (loopFilterOf false old) (readLoopFilter s p) → ((e : Refusal) → r .next ≡ Refused e → r .lf ≡ old)
+    → viewLoopFilter q ≡ over (loopFilterOf false old) (readLoopFilter s p) → ((e : Refusal) → q .next ≡ Refused e → q .lf ≡ old) → r ≡ q
 one-loop-filter old s p r q h hk k kk = one-kept old _ r q h hk k kk

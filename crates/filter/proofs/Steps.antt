@@ -10,13 +10,16 @@ use Rattle.bits.specs.Reader.{Got, Read, refused, bind, over}
 use Rattle.settings.specs.declared.loop_filter.LoopFilterParams.{LoopFilterParams}
 use Rattle.loop_deltas.specs.declared.LoopFilterRead.{LoopFilterRead}
 use Rattle.loop_deltas.specs.LoopDeltas.{viewLoopFilter}
-use Rattle.filter.specs.LoopFilter.{LoopFilterValues, readLoopFilter, loopFilterOf}
+use Rattle.grammar.specs.Tables.{LoopFilterValues}
+use Rattle.grammar.specs.Reading.{readLoopFilter}
+use Rattle.grammar.specs.Settings.{loopFilterOf}
 use Rattle.loop_deltas.proofs.Steps.{settings-step, settings-stop}
+use mathlib.Core.Bool.{false}
 
 module _ {B D : Type 0} (s : List ℕ) (p : ℕ) (f : B → D) where
-  module _ (old : LoopFilterParams) (r : LoopFilterRead) (k : LoopFilterValues → ℕ → Read B) (e : viewLoopFilter r ≡ over (loopFilterOf old) (readLoopFilter s p)) where
-    pub loop-filter-step : (c : Cursor) (o : Got D) → r .next ≡ At c → ((a : LoopFilterValues) → r .lf ≡ loopFilterOf old a → o ≡ over f (k a (c .at))) → o ≡ over f (bind (readLoopFilter s p) k)
-    loop-filter-step = settings-step (loopFilterOf old) (readLoopFilter s p) f k r e
+  module _ (old : LoopFilterParams) (r : LoopFilterRead) (k : LoopFilterValues → ℕ → Read B) (e : viewLoopFilter r ≡ over (loopFilterOf false old) (readLoopFilter s p)) where
+    pub loop-filter-step : (c : Cursor) (o : Got D) → r .next ≡ At c → ((a : LoopFilterValues) → r .lf ≡ loopFilterOf false old a → o ≡ over f (k a (c .at))) → o ≡ over f (bind (readLoopFilter s p) k)
+    loop-filter-step = settings-step (loopFilterOf false old) (readLoopFilter s p) f k r e
 
     pub loop-filter-stop : (u : Refusal) → r .next ≡ Refused u → refused u ≡ over f (bind (readLoopFilter s p) k)
-    loop-filter-stop = settings-stop (loopFilterOf old) (readLoopFilter s p) f k r e
+    loop-filter-stop = settings-stop (loopFilterOf false old) (readLoopFilter s p) f k r e

@@ -2,7 +2,9 @@
 ghost use mathlib.Core.Path.{_≡_};
 ghost use Rattle.bits.specs.Reader.{over};
 ghost use Rattle.loop_deltas.specs.LoopDeltas.{viewLoopFilter};
-ghost use Rattle.filter.specs.LoopFilter.{readLoopFilter, loopFilterOf};
+ghost use Rattle.grammar.specs.Reading.{readLoopFilter};
+ghost use Rattle.grammar.specs.Settings.{loopFilterOf};
+ghost use mathlib.Core.Bool.{false};
 use bits::Bits;
 use bits::Cursor;
 use bits::Next;
@@ -11,7 +13,7 @@ use loop_deltas::LoopFilterRead;
 use settings::LoopFilterParams;
 
 pub fn parse_loop_filter_params(s: &[u8], c: Cursor, old: LoopFilterParams) -> LoopFilterRead
-    ensures { λ r. ⌜ viewLoopFilter r ≡ over (loopFilterOf old) (readLoopFilter (now (s .entry)) (c .at)) ⌝ }
+    ensures { λ r. ⌜ viewLoopFilter r ≡ over (loopFilterOf false old) (readLoopFilter (now (s .entry)) (c .at)) ⌝ }
     ensures { λ r. ⌜ ((e : Refusal) → r .next ≡ Next.Refused e → r .lf ≡ old) ⌝ }
 {
     let short = LoopFilterRead {

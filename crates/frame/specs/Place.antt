@@ -5,7 +5,7 @@ use mathlib.Core.Bool.{Bool, _&&_}
 use mathlib.Core.List.{List}
 use lib.Dec.{leb}
 use lib.ListN.{length, take, drop}
-use Rattle.bits.specs.Reader.{pick}
+use Rattle.bits.specs.Syntax.{pick}
 use Rattle.types.specs.Header.{defaultHeader}
 use Rattle.types.specs.declared.state.ReaderState.{ReaderState}
 use Rattle.header.specs.Answer.{parsed}

@@ -1,26 +1,23 @@
 -- The header record of a frame's parts and its length, as the code puts it together.
 -- Assumes nothing.
-use Prim.Native.Nat.{ℕ, _+_, _/_, min}
+use Prim.Native.Nat.{ℕ, min}
 use mathlib.Core.Bool.{Bool, false, _||_}
 use mathlib.Core.List.{List, [], _∷_}
 use lib.ListN.{replicate}
-use Rattle.bits.specs.Reader.{pick}
+use Rattle.bits.specs.Syntax.{pick}
 use Rattle.enums.specs.Profile.{profileOf}
 use Rattle.enums.specs.declared.FrameType.{FrameType}
 use Rattle.enums.specs.declared.FrameType.the-variants.{KeyFrame, InterFrame}
 use Rattle.types.specs.declared.header.Header.{Header}
-use Rattle.quantizer.specs.Quantizer.{lossless}
+use Rattle.grammar.specs.Settings.{lossless}
 use Rattle.lead.specs.declared.Lead.{Lead}
 use Rattle.tail.specs.declared.Settings.{Settings}
 use Rattle.tail.specs.declared.Closing.{Closing}
+use Rattle.grammar.specs.Record.{lengthOf}
 
 -- record
 abbrev pub frameTypeOf : Bool → FrameType
 frameTypeOf key = pick key KeyFrame InterFrame
-
--- bits in whole bytes
-abbrev pub lengthOf : ℕ → ℕ
-lengthOf n = (n + 7) / 8
 
 -- the code's answer: an intra or error-resilient frame
 abbrev pub independent : Lead → Bool

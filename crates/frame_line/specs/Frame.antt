@@ -3,7 +3,7 @@
 use Prim.Native.Nat.{ℕ}
 use mathlib.Core.Bool.{Bool}
 use mathlib.Core.List.{List, [], _∷_}
-use Rattle.bits.specs.Reader.{pick}
+use Rattle.bits.specs.Syntax.{pick}
 use Rattle.enums.specs.declared.FrameType.{FrameType}
 use Rattle.enums.specs.declared.FrameType.the-variants.{KeyFrame, InterFrame}
 use Rattle.types.specs.declared.header.Header.{Header}

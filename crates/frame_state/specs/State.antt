@@ -3,7 +3,7 @@
 use Prim.Native.Nat.{ℕ}
 use mathlib.Core.Bool.{Bool, _&&_}
 use lib.Dec.{eqb}
-use Rattle.bits.specs.Reader.{pick}
+use Rattle.bits.specs.Syntax.{pick}
 use Rattle.enums.specs.declared.ColorRange.{ColorRange}
 use Rattle.types.specs.declared.state.ReaderState.{ReaderState}
 use Rattle.slots.specs.Slots.{refreshed}

@@ -1,4 +1,4 @@
-pub mod Laws
+pub mod Flat
 pub mod Record
 pub mod Outcomes
 pub mod Parts

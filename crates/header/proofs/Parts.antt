@@ -8,13 +8,15 @@ use Rattle.bits.specs.declared.Cursor.{Cursor}
 use Rattle.bits.specs.declared.Next.the-variants.{At, Refused as Stop}
 use Rattle.bits.specs.declared.Refusal.{Refusal}
 use Rattle.bits.specs.declared.Refusal.the-variants.{PastEnd}
-use Rattle.bits.specs.Reader.{pick, over}
+use Rattle.bits.specs.Reader.{over}
+use Rattle.bits.specs.Syntax.{flag, pick}
 use Rattle.bits.proofs.Steps.{gave, lacked}
 use Rattle.types.specs.declared.header.Header.{Header}
 use Rattle.types.specs.declared.state.ReaderState.{ReaderState}
 use Rattle.start.specs.declared.Opening.{Opening}
 use Rattle.start.specs.declared.OpeningRead.{OpeningRead}
 use Rattle.start.specs.declared.OpeningRead.the-variants.{Value as Opens, Refused as NotOpen}
+use Rattle.start.specs.Profile.{profileNumber}
 use Rattle.start.specs.Opening.{readOpening, openingOf, viewOpening}
 use Rattle.color.specs.declared.Color.{Color}
 use Rattle.lead.specs.declared.Lead.{Lead}
@@ -32,10 +34,8 @@ use Rattle.tail.proofs.Steps.{closing-got, closing-short}
 use Rattle.frame_header.specs.Record.{independent, cutLength, frameHeader}
 use Rattle.frame_state.specs.State.{frameState}
 use Rattle.header.specs.declared.HeaderRead.{HeaderRead}
-use Rattle.header.specs.Header.{showsExisting, profileOf}
-use Rattle.header.specs.Record.{rememberedColor}
-use Rattle.header.specs.Answer.{accepted, refusedWith, outcome, parsed}
-use Rattle.header.specs.Parts.{widthOf, finished, settled, framed, shownHeader}
+use Rattle.header.specs.Parts.{rememberedColor, widthOf, finished, settled, framed, shownHeader}
+use Rattle.header.specs.Answer.{accepted, refusedWith, outcome}
 use Rattle.header.proofs.Outcomes.{came, came-not}
 
 module _ (st : ReaderState) (profile : ℕ) (s : List ℕ) (p : ℕ) where
@@ -66,7 +66,7 @@ module _ (st : ReaderState) (profile : ℕ) (s : List ℕ) (p : ℕ) where
 
 -- the whole, after its opening
 abbrev pub opened : List ℕ → ReaderState → HeaderRead
-opened s st = outcome st (λ o p. pick (showsExisting o) (accepted (shownHeader (openingOf o)) st) (framed st (profileOf o) s p)) (readOpening s 0)
+opened s st = outcome st (λ o p. pick (flag (o .show-existing-frame)) (accepted (shownHeader (openingOf o)) st) (framed st (profileNumber (o .profile)) s p)) (readOpening s 0)
 
 module _ (s : List ℕ) (st : ReaderState) (x : Cursor) (ex : x ≡ record { at = 0 }) (r : OpeningRead) (e₀ : viewOpening r ≡ over openingOf (readOpening s (x .at))) where
   e : viewOpening r ≡ over openingOf (readOpening s 0)
@@ -78,11 +78,11 @@ module _ (s : List ℕ) (st : ReaderState) (x : Cursor) (ex : x ≡ record { at 
   pub opened-shown : (o : Opening) (c : Cursor) (h : Header) → r ≡ Opens o c → o .«show_existing_frame» ≡ true → h ≡ shownHeader o → accepted h st ≡ opened s st
   unfolding openingOf
   opened-shown o c h t b eh = came st openingOf (readOpening s 0) _ o (c .at) _ (rw t at e) λ a ea.
-      let f : showsExisting a ≡ true = sym (ap (λ (x : Opening). x .«show_existing_frame») ea) ∙ b in
+      let f : flag (a .show-existing-frame) ≡ true = sym (ap (λ (x : Opening). x .«show_existing_frame») ea) ∙ b in
       rw (eh, ea, f)
 
   pub opened-frame : (o : Opening) (c : Cursor) (y : HeaderRead) → r ≡ Opens o c → o .«show_existing_frame» ≡ false → y ≡ framed st (o .profile) s (c .at) → y ≡ opened s st
   unfolding openingOf
   opened-frame o c y t b ey = came st openingOf (readOpening s 0) _ o (c .at) y (rw t at e) λ a ea.
-      let f : showsExisting a ≡ false = sym (ap (λ (x : Opening). x .«show_existing_frame») ea) ∙ b in
+      let f : flag (a .show-existing-frame) ≡ false = sym (ap (λ (x : Opening). x .«show_existing_frame») ea) ∙ b in
       rw f (ey ∙ rw ea)

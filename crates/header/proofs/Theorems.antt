@@ -20,14 +20,12 @@ use Rattle.bits.proofs.Told.{past-end-exactly, mark-exactly}
 use Rattle.settings.specs.declared.size.FrameSize.{FrameSize}
 use Rattle.types.specs.declared.state.ReaderState.{ReaderState}
 use Rattle.verdict.specs.declared.Verdict.the-variants.{Accepted, Refused}
-use Rattle.frame_header.specs.Record.{lengthOf}
-use Rattle.header.specs.Header.{HeaderValues, showsExisting, headerFields, readHeader}
-use Rattle.header.specs.Spelled.{Spelled}
-use Rattle.header.specs.Record.{frameOf, headerOf}
-use Rattle.header.specs.State.{stateAfter}
+use Rattle.grammar.specs.Record.{lengthOf, frameOf, headerOf, stateAfter}
+use Rattle.grammar.specs.Header.{HeaderValues, showsExisting, headerFields, Spelled}
+use Rattle.grammar.specs.Reading.{readHeader}
 use Rattle.header.specs.Answer.{accepted, refusedWith, outcome, parsed}
 use Rattle.header.specs.declared.HeaderRead.{HeaderRead}
-use Rattle.header.proofs.Laws.{header-reads, header-size}
+use Rattle.grammar.proofs.Header.{header-reads, header-size}
 
 module _ (s : List ℕ) (slots : List FrameSize) (v : HeaderValues) where
   short-enough : length (flat (headerFields slots v)) < 2 ^ 64
@@ -100,11 +98,11 @@ module _ (s : List ℕ) (st : ReaderState) where
       (λ h. x .0 (t .0 h), λ h. t .1 (x .1 h))
 
 -- the stated length: 0 for show-existing, and else the spelling's bits in whole bytes
-pub length-shown : (st : ReaderState) (v : HeaderValues) → showsExisting (v .opening) ≡ true → headerOf st v .«uncompressed_header_size_in_bytes» ≡ 0
+pub length-shown : (st : ReaderState) (v : HeaderValues) → showsExisting v ≡ true → headerOf st v .«uncompressed_header_size_in_bytes» ≡ 0
 unfolding headerOf
 length-shown st v h = rw h
 
-pub length-stated : (st : ReaderState) (v : HeaderValues) → showsExisting (v .opening) ≡ false
+pub length-stated : (st : ReaderState) (v : HeaderValues) → showsExisting v ≡ false
     → headerOf st v .«uncompressed_header_size_in_bytes» ≡ lengthOf (size (headerFields (st .«reference_frame_sz») v))
 unfolding headerOf frameOf
 length-stated st v h = rw h

@@ -8,9 +8,8 @@ use Rattle.types.specs.Header.{defaultHeader}
 use Rattle.types.specs.declared.header.Header.{Header}
 use Rattle.types.specs.declared.state.ReaderState.{ReaderState}
 use Rattle.verdict.specs.declared.Verdict.the-variants.{Accepted, Refused}
-use Rattle.header.specs.Header.{readHeader}
-use Rattle.header.specs.Record.{headerOf}
-use Rattle.header.specs.State.{stateAfter}
+use Rattle.grammar.specs.Reading.{readHeader}
+use Rattle.grammar.specs.Record.{headerOf, stateAfter}
 use Rattle.header.specs.declared.HeaderRead.{HeaderRead}
 
 -- record

@@ -11,14 +11,25 @@ use Rattle.tail.specs.Closing.{readClosing, closingOf}
 use Rattle.frame_header.specs.Record.{independent, cutLength, frameHeader}
 use Rattle.frame_state.specs.State.{frameState}
 use Rattle.header.specs.declared.HeaderRead.{HeaderRead}
-use Rattle.header.specs.Record.{rememberedColor}
+use Rattle.color.specs.declared.Color.{Color}
 use Rattle.header.specs.Answer.{accepted, outcome}
 use Rattle.types.specs.declared.header.Header.{Header}
 use Rattle.types.specs.Header.{showingHeader}
 use Rattle.enums.specs.Profile.{profileOf as profileNamed}
 use Rattle.start.specs.declared.Opening.{Opening}
 
--- the code's answer: show-existing, from the opening
+-- the code's answer: the colour that is remembered
+abbrev pub rememberedColor : ReaderState → Color
+rememberedColor st =
+    record {
+      «bit_depth» = st .«bit_depth»;
+      «color_space» = st .«color_space»;
+      «color_range» = st .«color_range»;
+      «subsampling_x» = st .«subsampling_x»;
+      «subsampling_y» = st .«subsampling_y»;
+    }
+
+-- show-existing, from the opening
 unfoldable pub shownHeader : Opening → Header
 shownHeader o = showingHeader (profileNamed (o .profile)) (o .«frame_to_show_map_idx»)
 

@@ -1,9 +1,7 @@
 // A frame's header, whole: the record, and the state that it leaves.
 ghost use mathlib.Core.Path.{_≡_};
-ghost use Rattle.header.specs.Record.{rememberedColor};
-ghost use Rattle.header.specs.Parts.{shownHeader};
+ghost use Rattle.header.specs.Parts.{rememberedColor, shownHeader, finished, settled, framed};
 ghost use Rattle.header.specs.Answer.{refusedWith, parsed};
-ghost use Rattle.header.specs.Parts.{finished, settled, framed};
 use bits::Cursor;
 use bits::Next;
 use bits::Refusal;

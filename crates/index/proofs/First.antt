@@ -8,7 +8,7 @@ use native.Mathlib.Nat.{eq-or-lt-of-le}
 use native.Mathlib.Omega.{arith}
 use lib.Dec.{ltb}
 use borrow.Author.Tests.{ltb-true, ltb-false, lt-ltb, le-ltb}
-use Rattle.bits.specs.Reader.{pick}
+use Rattle.bits.specs.Syntax.{pick}
 use Rattle.index.specs.Layout.{Layout, frameEnd}
 use Rattle.index.specs.declared.Answer.the-variants.{Past}
 use Rattle.index.specs.Split.{refused, places, first, firstPast, placed}

@@ -5,7 +5,7 @@ use mathlib.Core.Bool.{Bool, _&&_}
 use mathlib.Core.List.{List}
 use lib.Dec.{eqb, ltb}
 use lib.ListN.{length, getD}
-use Rattle.bits.specs.Reader.{pick}
+use Rattle.bits.specs.Syntax.{pick}
 use Rattle.coded.specs.Little.{little}
 
 -- superframe_header(), a byte: superframe_marker f(3), bytes_per_framesize_minus_1 f(2), frames_in_superframe_minus_1 f(3)

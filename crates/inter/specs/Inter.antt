@@ -1,24 +1,19 @@
 -- The picture of an inter frame (VP9 6.2): the slots that it writes and reads, sizes, motion.
 -- Assumes nothing.
-use mathlib.Core.List.{List, _++_}
-use Rattle.bits.specs.Syntax.{Field}
+use mathlib.Core.List.{List}
 use Rattle.bits.specs.Reader.{Reader, give, _>>=_}
 use Rattle.settings.specs.declared.size.FrameSize.{FrameSize}
 use Rattle.color.specs.declared.Color.{Color}
 use Rattle.refs.specs.Refs.{refsOf}
-use Rattle.size_with_refs.specs.SizeWithRefs.{SizeWithRefsValues, noSizeWithRefs, sizeWithRefsFields, readSizeWithRefs, sizeWithRefsOf}
-use Rattle.refs.specs.Sources.{SourcesValues, noSources, sourcesFields, readSources, sourcesOf}
-use Rattle.motion.specs.Motion.{MotionValues, noMotion, motionFields, readMotion, motionOf}
+use Rattle.size_with_refs.specs.SizeWithRefs.{SizeWithRefsValues, noSizeWithRefs, readSizeWithRefs, sizeWithRefsOf}
+use Rattle.refs.specs.Sources.{SourcesValues, noSources, readSources, sourcesOf}
+use Rattle.motion.specs.Motion.{MotionValues, noMotion, readMotion, motionOf}
 use Rattle.picture.specs.declared.Picture.{Picture}
 
 pub record InterValues : Type 0 where
   pub sources : SourcesValues
   pub sizes : SizeWithRefsValues
   pub motion : MotionValues
-
--- spelling
-unfoldable pub interFields : InterValues → List Field
-interFields v = sourcesFields (v .sources) ++ (sizeWithRefsFields (v .sizes) ++ motionFields (v .motion))
 
 -- reading
 abbrev pub noInter : InterValues

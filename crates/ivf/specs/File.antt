@@ -5,7 +5,7 @@ use mathlib.Core.Bool.{Bool, true, _&&_}
 use mathlib.Core.List.{List, [], _∷_}
 use lib.Dec.{eqb, leb}
 use lib.ListN.{length, getD}
-use Rattle.bits.specs.Reader.{pick}
+use Rattle.bits.specs.Syntax.{pick}
 use Rattle.coded.specs.Little.{little}
 use Rattle.ivf.specs.declared.IvfHeader.{IvfHeader}
 use Rattle.ivf.specs.declared.FileRead.{FileRead}

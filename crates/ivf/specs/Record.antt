@@ -5,7 +5,7 @@ use mathlib.Core.Bool.{Bool}
 use mathlib.Core.List.{List}
 use lib.Dec.{eqb, ltb}
 use lib.ListN.{length}
-use Rattle.bits.specs.Reader.{pick}
+use Rattle.bits.specs.Syntax.{pick}
 use Rattle.coded.specs.Little.{little}
 use Rattle.ivf.specs.declared.Record.{Record}
 use Rattle.ivf.specs.declared.RecordRead.{RecordRead}

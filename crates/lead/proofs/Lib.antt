@@ -1,4 +1,3 @@
-pub mod Laws
 pub mod Shots
 pub mod Steps
 pub mod Exact

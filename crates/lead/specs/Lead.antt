@@ -2,15 +2,15 @@
 -- Assumes nothing.
 use Prim.Native.Nat.{ℕ}
 use mathlib.Core.Bool.{Bool, _||_}
-use mathlib.Core.List.{List, _++_}
+use mathlib.Core.List.{List}
 use lib.Dec.{eqb}
-use Rattle.bits.specs.Syntax.{Field, flag}
+use Rattle.bits.specs.Syntax.{flag}
 use Rattle.bits.specs.Reader.{Got, got, refused, Reader, give, _>>=_}
 use Rattle.settings.specs.declared.size.FrameSize.{FrameSize}
-use Rattle.traits.specs.Traits.{TraitsValues, noTraits, traitsFields, readTraits, traitsOf}
-use Rattle.traits.specs.Context.{ContextValues, noContext, contextFields, readContext, contextOf}
+use Rattle.traits.specs.Traits.{TraitsValues, readTraits, traitsOf}
+use Rattle.traits.specs.Context.{ContextValues, readContext, contextOf}
 use Rattle.color.specs.declared.Color.{Color}
-use Rattle.lead.specs.Shot.{ShotValues, noShot, isIntraOnly, shotFields, readShot, shotSize, shotOf}
+use Rattle.lead.specs.Shot.{ShotValues, isIntraOnly, readShot, shotSize, shotOf}
 use Rattle.lead.specs.declared.Lead.{Lead}
 use Rattle.lead.specs.declared.LeadRead.{LeadRead}
 use Rattle.lead.specs.declared.LeadRead.the-variants.{Value, Refused}
@@ -30,13 +30,6 @@ isShown t = flag (t .show-frame)
 abbrev pub isResilient : TraitsValues → Bool
 isResilient t = flag (t .error-resilient-mode)
 
--- spelling, for a profile
-unfoldable pub leadFields : ℕ → LeadValues → List Field
-leadFields profile v =
-    traitsFields (v .traits)
-    ++ (shotFields profile (isKey (v .traits)) (isShown (v .traits)) (isResilient (v .traits)) (v .shot)
-    ++ contextFields (isResilient (v .traits)) (v .context))
-
 -- record: the frame's size, from the remembered sizes
 abbrev pub frameSize : List FrameSize → LeadValues → FrameSize
 frameSize slots v = shotSize (isKey (v .traits)) slots (v .shot)
@@ -46,8 +39,6 @@ abbrev pub isIndependent : LeadValues → Bool
 isIndependent v = isKey (v .traits) || (isIntraOnly (v .shot) || isResilient (v .traits))
 
 -- reading
-abbrev pub noLead : LeadValues
-noLead = record { traits = noTraits; shot = noShot; context = noContext }
 
 unfoldable pub readLead : ℕ → Reader LeadValues
 readLead profile = do

@@ -2,20 +2,20 @@
 -- Assumes nothing.
 use Prim.Native.Nat.{ℕ}
 use mathlib.Core.Bool.{Bool, not, _&&_}
-use mathlib.Core.List.{List, _++_}
-use Rattle.bits.specs.Syntax.{Field, flag, optional}
-use Rattle.bits.specs.Reader.{Got, got, refused, pick, Reader, give, _>>=_, groupIf}
+use mathlib.Core.List.{List}
+use Rattle.bits.specs.Syntax.{flag, pick}
+use Rattle.bits.specs.Reader.{Got, got, refused, Reader, give, _>>=_, groupIf}
 use Rattle.settings.specs.declared.size.FrameSize.{FrameSize}
-use Rattle.traits.specs.Kind.{KindValues, noKind, kindFields, readKind, kindOf}
+use Rattle.traits.specs.Kind.{KindValues, noKind, readKind, kindOf}
 use Rattle.traits.specs.declared.Kind.{Kind}
 use Rattle.color.specs.declared.Color.{Color}
-use Rattle.sizes.specs.Size.{sizeOf}
+use Rattle.grammar.specs.Header.{sizeOf}
 use Rattle.refs.specs.Refs.{refsOf}
 use Rattle.size_with_refs.specs.SizeWithRefs.{foundSize}
 use Rattle.picture.specs.declared.Picture.{Picture}
-use Rattle.picture.specs.Key.{KeyValues, noKey, keyFields, readKey, keyOf}
-use Rattle.picture.specs.IntraOnly.{IntraOnlyValues, noIntraOnly, intraOnlyFields, readIntraOnly, intraOnlyOf}
-use Rattle.inter.specs.Inter.{InterValues, noInter, interFields, readInter, interOf}
+use Rattle.picture.specs.Key.{KeyValues, noKey, readKey, keyOf}
+use Rattle.picture.specs.IntraOnly.{IntraOnlyValues, noIntraOnly, readIntraOnly, intraOnlyOf}
+use Rattle.inter.specs.Inter.{InterValues, noInter, readInter, interOf}
 use Rattle.lead.specs.declared.Shot.{Shot}
 use Rattle.lead.specs.declared.ShotRead.{ShotRead}
 use Rattle.lead.specs.declared.ShotRead.the-variants.{Value, Refused}
@@ -28,14 +28,6 @@ pub record ShotValues : Type 0 where
 
 abbrev pub isIntraOnly : ShotValues → Bool
 isIntraOnly v = flag (v .kind .intra-only)
-
--- spelling, for a profile and a frame that is a key frame or not, shown or not, error resilient or not
-unfoldable pub shotFields : ℕ → Bool → Bool → Bool → ShotValues → List Field
-shotFields profile key shown resilient v =
-    optional key (keyFields profile (v .key))
-    ++ (optional (not key) (kindFields shown resilient (v .kind))
-    ++ (optional (isIntraOnly v) (intraOnlyFields profile (v .intra-only))
-    ++ optional (not key && not (isIntraOnly v)) (interFields (v .inter))))
 
 -- record: the frame's size, from the remembered sizes
 abbrev pub shotSize : Bool → List FrameSize → ShotValues → FrameSize

@@ -1,5 +1,4 @@
 pub mod Readings
 pub mod Records
-pub mod Laws
 pub mod Steps
 pub mod Exact

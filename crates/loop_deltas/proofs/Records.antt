@@ -12,11 +12,13 @@ use borrow.Author.Tests.{eq-eqb, ne-eqb}
 use Rattle.bits.specs.Reader.{got}
 use Rattle.bits.specs.Many.{Times}
 use Rattle.coded.specs.declared.Delta.{Delta}
-use Rattle.coded.specs.Delta.{DeltaValues, deltaOf}
+use Rattle.coded.specs.Delta.{deltaOf}
+use Rattle.grammar.specs.Tables.{DeltaValues}
 use Rattle.settings.specs.declared.loop_filter.LoopFilterParams.{LoopFilterParams}
 use Rattle.loop_deltas.specs.declared.RefDeltas.{RefDeltas}
 use Rattle.loop_deltas.specs.declared.ModeDeltas.{ModeDeltas}
-use Rattle.loop_deltas.specs.LoopDeltas.{noRefDeltas, noModeDeltas, refDeltasOf, modeDeltasOf, moved, withFlags, withDeltas, loopDeltasOf}
+use Rattle.loop_deltas.specs.LoopDeltas.{refDeltasOf, modeDeltasOf, moved, withFlags, withDeltas, loopDeltasOf}
+use Rattle.grammar.specs.Reading.{noRefDeltas, noModeDeltas}
 
 -- the loop filter's deltas
 pub ref-deltas : (i l g x : Delta) (a b c d : DeltaValues) (p : ℕ) → i ≡ deltaOf a → l ≡ deltaOf b → g ≡ deltaOf c → x ≡ deltaOf d

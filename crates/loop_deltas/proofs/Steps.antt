@@ -14,7 +14,7 @@ use Rattle.bits.specs.declared.Refusal.the-variants.{PastEnd}
 use Rattle.bits.specs.Reader.{Got, Read, refused, bind, over, groupIf}
 use Rattle.bits.specs.Many.{Times}
 use Rattle.bits.proofs.Steps.{group-step, group-stop, gave, lacked}
-use Rattle.coded.specs.Delta.{DeltaValues}
+use Rattle.grammar.specs.Tables.{DeltaValues}
 use Rattle.settings.specs.declared.loop_filter.LoopFilterParams.{LoopFilterParams}
 use Rattle.loop_deltas.specs.declared.RefDeltas.{RefDeltas}
 use Rattle.loop_deltas.specs.declared.RefDeltasRead.{RefDeltasRead}
@@ -23,7 +23,8 @@ use Rattle.loop_deltas.specs.declared.ModeDeltas.{ModeDeltas}
 use Rattle.loop_deltas.specs.declared.ModeDeltasRead.{ModeDeltasRead}
 use Rattle.loop_deltas.specs.declared.ModeDeltasRead.the-variants.{Value as Modes, Short as NoModes}
 use Rattle.loop_deltas.specs.declared.LoopFilterRead.{LoopFilterRead}
-use Rattle.loop_deltas.specs.LoopDeltas.{noRefDeltas, noModeDeltas, readRefDeltas, readModeDeltas, refDeltasOf, modeDeltasOf, viewRefDeltas, viewModeDeltas, viewLoopFilter}
+use Rattle.loop_deltas.specs.LoopDeltas.{refDeltasOf, modeDeltasOf, viewRefDeltas, viewModeDeltas, viewLoopFilter}
+use Rattle.grammar.specs.Reading.{noRefDeltas, noModeDeltas, readRefDeltas, readModeDeltas}
 use Rattle.loop_deltas.proofs.Readings.{group-taken}
 use Rattle.loop_deltas.proofs.RefDeltasRead.{the-type as the-refs}
 use Rattle.loop_deltas.proofs.ModeDeltasRead.{the-type as the-modes}

@@ -2,16 +2,16 @@
 -- Assumes nothing.
 use Prim.Native.Nat.{ℕ}
 use mathlib.Core.Bool.{Bool, true, false}
-use mathlib.Core.List.{List, [], _∷_, _++_}
+use mathlib.Core.List.{List, [], _∷_}
 use lib.IntN.{ℤ, pos}
 use lib.ListN.{getD}
-use Rattle.bits.specs.Refusal.{the, item}
-use Rattle.bits.specs.Syntax.{Field, fld, flag, optional}
-use Rattle.bits.specs.Reader.{Got, got, refused, pick, Reader, give, _>>=_, field, groupIf, viewNext}
-use Rattle.bits.specs.Many.{Times, times, manyFields, many}
+use Rattle.bits.specs.Syntax.{flag, pick}
+use Rattle.bits.specs.Reader.{Got, got, refused, viewNext}
+use Rattle.bits.specs.Many.{Times}
 use Rattle.bits.specs.declared.Refusal.the-variants.{PastEnd}
 use Rattle.coded.specs.declared.Delta.{Delta}
-use Rattle.coded.specs.Delta.{DeltaValues, noDelta, deltaFields, readDelta, deltaOf}
+use Rattle.coded.specs.Delta.{deltaOf}
+use Rattle.grammar.specs.Tables.{DeltaValues, LoopDeltasValues}
 use Rattle.settings.specs.declared.loop_filter.LoopFilterParams.{LoopFilterParams}
 use Rattle.loop_deltas.specs.declared.LoopFilterRead.{LoopFilterRead}
 use Rattle.loop_deltas.specs.declared.RefDeltas.{RefDeltas}
@@ -20,54 +20,6 @@ use Rattle.loop_deltas.specs.declared.RefDeltasRead.the-variants.{Value 
 use Rattle.loop_deltas.specs.declared.ModeDeltas.{ModeDeltas}
 use Rattle.loop_deltas.specs.declared.ModeDeltasRead.{ModeDeltasRead}
 use Rattle.loop_deltas.specs.declared.ModeDeltasRead.the-variants.{Value as Modes, Short as NoModes}
-
-pub record LoopDeltasValues : Type 0 where
-  pub delta-update : ℕ
-  pub ref-deltas : Times 4 DeltaValues
-  pub mode-deltas : Times 2 DeltaValues
-
--- delta number i: six bits and a sign, behind a flag
-abbrev pub refDelta : ℕ → DeltaValues → List Field
-refDelta i = deltaFields (item "update_ref_delta" i) (item "loop_filter_ref_deltas" i) (item "loop_filter_ref_deltas_sign" i) 6
-
-abbrev pub modeDelta : ℕ → DeltaValues → List Field
-modeDelta i = deltaFields (item "update_mode_delta" i) (item "loop_filter_mode_deltas" i) (item "loop_filter_mode_deltas_sign" i) 6
-
--- spelling
-unfoldable pub loopDeltasFields : LoopDeltasValues → List Field
-loopDeltasFields v =
-    fld (the "loop_filter_delta_update") 1 (v .delta-update)
-    ∷ (optional (flag (v .delta-update)) (manyFields refDelta 0 4 (v .ref-deltas))
-    ++ optional (flag (v .delta-update)) (manyFields modeDelta 0 2 (v .mode-deltas)))
-
--- reading
-abbrev pub noRefDeltas : Times 4 DeltaValues
-noRefDeltas = times 4 noDelta
-
-abbrev pub noModeDeltas : Times 2 DeltaValues
-noModeDeltas = times 2 noDelta
-
-abbrev pub noLoopDeltas : LoopDeltasValues
-noLoopDeltas = record { delta-update = 0; ref-deltas = noRefDeltas; mode-deltas = noModeDeltas }
-
-abbrev pub readRefDelta : ℕ → Reader DeltaValues
-readRefDelta i = readDelta (item "update_ref_delta" i) (item "loop_filter_ref_deltas" i) (item "loop_filter_ref_deltas_sign" i) 6
-
-abbrev pub readModeDelta : ℕ → Reader DeltaValues
-readModeDelta i = readDelta (item "update_mode_delta" i) (item "loop_filter_mode_deltas" i) (item "loop_filter_mode_deltas_sign" i) 6
-
-unfoldable pub readRefDeltas : Reader (Times 4 DeltaValues)
-readRefDeltas = many 0 4 readRefDelta
-
-unfoldable pub readModeDeltas : Reader (Times 2 DeltaValues)
-readModeDeltas = many 0 2 readModeDelta
-
-unfoldable pub readLoopDeltas : Reader LoopDeltasValues
-readLoopDeltas = do
-  u ← field (the "loop_filter_delta_update") 1
-  r ← groupIf (flag u) noRefDeltas readRefDeltas
-  m ← groupIf (flag u) noModeDeltas readModeDeltas
-  give (record { delta-update = u; ref-deltas = r; mode-deltas = m })
 
 -- the code's answer, from the remembered settings
 unfoldable pub refDeltasOf : Times 4 DeltaValues → RefDeltas

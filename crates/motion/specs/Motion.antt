@@ -1,12 +1,11 @@
 -- allow_high_precision_mv and the interpolation filter of an inter frame (VP9 6.2).
 -- Assumes nothing.
 use Prim.Native.Nat.{ℕ}
-use mathlib.Core.List.{List, _∷_}
 use Rattle.bits.specs.Refusal.{the}
-use Rattle.bits.specs.Syntax.{Field, fld, flag}
-use Rattle.bits.specs.Reader.{Got, got, refused, Reader, give, _>>=_, field}
+use Rattle.bits.specs.Syntax.{flag}
+use Rattle.bits.specs.Reader.{Got, got, refused, Reader, give, field, _>>=_}
 use Rattle.bits.specs.declared.Refusal.the-variants.{PastEnd}
-use Rattle.motion.specs.Filter.{FilterValues, noFilter, filterFields, readFilter, filterOf}
+use Rattle.motion.specs.Filter.{FilterValues, noFilter, readFilter, filterOf}
 use Rattle.motion.specs.declared.Motion.{Motion}
 use Rattle.motion.specs.declared.MotionRead.{MotionRead}
 use Rattle.motion.specs.declared.MotionRead.the-variants.{Value, Short}
@@ -14,10 +13,6 @@ use Rattle.motion.specs.declared.MotionRead.the-variants.{Value, Short}
 pub record MotionValues : Type 0 where
   pub allow-high-precision-mv : ℕ
   pub filter : FilterValues
-
--- spelling
-unfoldable pub motionFields : MotionValues → List Field
-motionFields v = fld (the "allow_high_precision_mv") 1 (v .allow-high-precision-mv) ∷ filterFields (v .filter)
 
 -- reading
 abbrev pub noMotion : MotionValues

@@ -12,7 +12,8 @@ use Rattle.bits.specs.Read.{readBits}
 use Rattle.bits.specs.Reader.{got}
 use Rattle.bits.proofs.Steps.{value-lt}
 use Rattle.color.specs.declared.Color.{Color}
-use Rattle.color.specs.Color.{ColorValues, colorOf}
+use Rattle.color.specs.Color.{colorOf}
+use Rattle.grammar.specs.Tables.{ColorValues}
 use Rattle.color.specs.Intra.{intraColorOf}
 use Rattle.sizes.specs.declared.Sizes.{Sizes}
 use Rattle.sizes.specs.Sizes.{SizesValues, sizesOf}

@@ -1,14 +1,12 @@
 -- The picture of an intra-only frame (VP9 6.2): sync code, colour unless the profile is 0, the slots to refresh, sizes.
 -- Assumes nothing.
 use Prim.Native.Nat.{ℕ}
-use mathlib.Core.List.{List, _∷_, _++_}
 use Rattle.bits.specs.Refusal.{the}
-use Rattle.bits.specs.Syntax.{Field, fld}
 use Rattle.bits.specs.Reader.{Reader, give, _>>=_, field}
-use Rattle.start.specs.Sync.{syncFields, readSync}
-use Rattle.color.specs.Color.{ColorValues, noColor}
-use Rattle.color.specs.Intra.{intraColorFields, readIntraColor, intraColorOf}
-use Rattle.sizes.specs.Sizes.{SizesValues, noSizes, sizesFields, readSizes, sizesOf}
+use Rattle.grammar.specs.Reading.{readSync, noColor}
+use Rattle.grammar.specs.Tables.{ColorValues}
+use Rattle.color.specs.Intra.{readIntraColor, intraColorOf}
+use Rattle.sizes.specs.Sizes.{SizesValues, noSizes, readSizes, sizesOf}
 use Rattle.picture.specs.Picture.{intraPicture}
 use Rattle.picture.specs.declared.Picture.{Picture}
 
@@ -17,14 +15,6 @@ pub record IntraOnlyValues : Type 0 where
   pub color : ColorValues
   pub refresh-frame-flags : ℕ
   pub sizes : SizesValues
-
--- spelling, for a profile
-unfoldable pub intraOnlyFields : ℕ → IntraOnlyValues → List Field
-intraOnlyFields profile v =
-    syncFields (v .frame-sync-code)
-    ++ (intraColorFields profile (v .color)
-    ++ (fld (the "refresh_frame_flags") 8 (v .refresh-frame-flags)
-    ∷ sizesFields (v .sizes)))
 
 -- reading
 abbrev pub noIntraOnly : IntraOnlyValues

@@ -7,7 +7,9 @@ use Rattle.bits.specs.Reader.{Got, got, refused, over}
 use Rattle.settings.specs.declared.quantization.QuantizationParams.{QuantizationParams}
 use Rattle.quantizer.specs.declared.QuantizerRead.{QuantizerRead}
 use Rattle.quantizer.specs.declared.QuantizerRead.the-variants.{Value as Quantizer, Short as NoQuantizer}
-use Rattle.quantizer.specs.Quantizer.{readQuantizer, quantizerOf, viewQuantizer}
+use Rattle.quantizer.specs.Quantizer.{viewQuantizer}
+use Rattle.grammar.specs.Reading.{readQuantizer}
+use Rattle.grammar.specs.Settings.{quantizerOf}
 
 -- the answer that an answer of the definition is
 asQuantizer : Got QuantizationParams → QuantizerRead

@@ -18,17 +18,18 @@ use Rattle.bits.specs.Read.{readBits}
 use Rattle.bits.specs.Reader.{got}
 use Rattle.bits.proofs.Steps.{value-lt}
 use Rattle.coded.specs.declared.Delta.{Delta}
-use Rattle.coded.specs.Delta.{DeltaValues, deltaOf}
-use Rattle.quantizer.specs.Quantizer.{deltaQOf, quantizerOf}
+use Rattle.coded.specs.Delta.{deltaOf}
+use Rattle.grammar.specs.Tables.{DeltaValues}
+use Rattle.grammar.specs.Settings.{quantizerOf, deltaValue}
 
 pub base-fits : (s : List ℕ) (p : ℕ) (r : Bits) (n : ℕ) (c : Cursor) → r ≡ readBits s p 8 → r ≡ Value n c → Fits w8 n
 base-fits s p r n c e t = record { fits = value-lt s p 8 r n c e t tt }
 
-pub delta-q : (d : Delta) (v : DeltaValues) (p : ℕ) → d ≡ deltaOf v → SFits w8 (d .value) → got (toZ w8 (ofZ w8 (d .value))) p ≡ got (deltaQOf v) p
-unfolding deltaQOf
+pub delta-q : (d : Delta) (v : DeltaValues) (p : ℕ) → d ≡ deltaOf v → SFits w8 (d .value) → got (toZ w8 (ofZ w8 (d .value))) p ≡ got (deltaValue v) p
+unfolding deltaValue deltaOf
 delta-q d v p e f = rw (toZ-ofZ f, e)
 
-pub quantizer : (b p : ℕ) (y d a : ℤ) (yv dv av : DeltaValues) → y ≡ deltaQOf yv → d ≡ deltaQOf dv → a ≡ deltaQOf av → SFits w8 y → SFits w8 d → SFits w8 a
+pub quantizer : (b p : ℕ) (y d a : ℤ) (yv dv av : DeltaValues) → y ≡ deltaValue yv → d ≡ deltaValue dv → a ≡ deltaValue av → SFits w8 y → SFits w8 d → SFits w8 a
     → got (record { «base_q_idx» = b; «delta_q_y_dc» = toZ w8 (ofZ w8 y); «delta_q_uv_dc» = toZ w8 (ofZ w8 d); «delta_q_uv_ac» = toZ w8 (ofZ w8 a) }) p
     ≡ got (quantizerOf (record { base-q-idx = b; delta-q-y-dc = yv; delta-q-uv-dc = dv; delta-q-uv-ac = av })) p
 unfolding quantizerOf

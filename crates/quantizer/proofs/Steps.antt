@@ -11,13 +11,15 @@ use Rattle.bits.specs.declared.Cursor.{Cursor}
 use Rattle.bits.specs.declared.Refusal.the-variants.{PastEnd}
 use Rattle.bits.specs.Reader.{Got, Read, read, stopped, refused, bind, over}
 use Rattle.bits.proofs.Steps.{group-step, group-stop}
-use Rattle.coded.specs.Delta.{DeltaValues}
+use Rattle.grammar.specs.Tables.{DeltaValues, QuantizerValues}
 use Rattle.settings.specs.declared.quantization.QuantizationParams.{QuantizationParams}
 use Rattle.quantizer.specs.declared.DeltaQRead.{DeltaQRead}
 use Rattle.quantizer.specs.declared.DeltaQRead.the-variants.{Value as DeltaQ, Short as NoDeltaQ}
 use Rattle.quantizer.specs.declared.QuantizerRead.{QuantizerRead}
 use Rattle.quantizer.specs.declared.QuantizerRead.the-variants.{Value as Quantizer, Short as NoQuantizer}
-use Rattle.quantizer.specs.Quantizer.{QuantizerValues, readDeltaQ, readQuantizer, deltaQOf, quantizerOf, viewDeltaQ, DeltaQIs, viewQuantizer}
+use Rattle.quantizer.specs.Quantizer.{viewDeltaQ, DeltaQIs, viewQuantizer}
+use Rattle.grammar.specs.Reading.{readDeltaQ, readQuantizer}
+use Rattle.grammar.specs.Settings.{quantizerOf, deltaValue}
 use Rattle.quantizer.proofs.DeltaQRead.{the-type as the-delta-q}
 use Rattle.quantizer.proofs.QuantizerRead.{the-type as the-quantizer}
 
@@ -37,11 +39,11 @@ no-quantizer NoQuantizer e h = e
 
 module _ {B D : Type 0} (s : List ℕ) (p : ℕ) (f : B → D) where
   module _ (i : ℕ) (r : DeltaQRead) (k : DeltaValues → ℕ → Read B) (e : DeltaQIs s p r) where
-    pub delta-q-step : (x : ℤ) (c : Cursor) (o : Got D) → r ≡ DeltaQ x c → ((a : DeltaValues) → x ≡ deltaQOf a → o ≡ over f (k a (c .at))) → o ≡ over f (bind (readDeltaQ i s p) k)
-    delta-q-step x c o h t = group-step deltaQOf (readDeltaQ i s p) f k x (c .at) o (rw h at (e i)) t
+    pub delta-q-step : (x : ℤ) (c : Cursor) (o : Got D) → r ≡ DeltaQ x c → ((a : DeltaValues) → x ≡ deltaValue a → o ≡ over f (k a (c .at))) → o ≡ over f (bind (readDeltaQ i s p) k)
+    delta-q-step x c o h t = group-step deltaValue (readDeltaQ i s p) f k x (c .at) o (rw h at (e i)) t
 
     pub delta-q-stop : OneOf (1 ∷ []) (tagOf the-delta-q r) → refused PastEnd ≡ over f (bind (readDeltaQ i s p) k)
-    delta-q-stop h = group-stop deltaQOf (readDeltaQ i s p) f k PastEnd (no-delta-q r (e i) h)
+    delta-q-stop h = group-stop deltaValue (readDeltaQ i s p) f k PastEnd (no-delta-q r (e i) h)
 
   module _ (r : QuantizerRead) (k : QuantizerValues → ℕ → Read B) (e : viewQuantizer r ≡ over quantizerOf (readQuantizer s p)) where
     pub quantizer-step : (x : QuantizationParams) (c : Cursor) (o : Got D) → r ≡ Quantizer x c → ((a : QuantizerValues) → x ≡ quantizerOf a → o ≡ over f (k a (c .at))) → o ≡ over f (bind (readQuantizer s p) k)

@@ -1,13 +1,9 @@
 // quantization_params(): the base and the three deltas.
 ghost use mathlib.Core.Path.{_≡_};
 ghost use Rattle.bits.specs.Reader.{over};
-ghost use Rattle.quantizer.specs.Quantizer.{
-  readQuantizer,
-  quantizerOf,
-  viewQuantizer,
-  DeltaQIs,
-  lossless,
-};
+ghost use Rattle.quantizer.specs.Quantizer.{viewQuantizer, DeltaQIs};
+ghost use Rattle.grammar.specs.Reading.{readQuantizer};
+ghost use Rattle.grammar.specs.Settings.{quantizerOf, lossless};
 use bits::Bits;
 use bits::Cursor;
 use coded::DeltaRead;

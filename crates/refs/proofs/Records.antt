@@ -15,7 +15,8 @@ use Rattle.bits.specs.Read.{readBits}
 use Rattle.bits.specs.Reader.{got}
 use Rattle.bits.proofs.Steps.{value-lt}
 use Rattle.refs.specs.declared.Ref.{Ref}
-use Rattle.refs.specs.Refs.{RefValues, refOf, refsOf, RefsValues}
+use Rattle.refs.specs.Refs.{refOf, refsOf}
+use Rattle.grammar.specs.Tables.{RefValues, RefsValues}
 use Rattle.refs.specs.declared.Refs.{Refs}
 use Rattle.refs.specs.Sources.{sourcesOf}
 

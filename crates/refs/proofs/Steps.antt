@@ -13,7 +13,9 @@ use Rattle.refs.specs.declared.RefRead.the-variants.{Value as One, Short
 use Rattle.refs.specs.declared.Refs.{Refs}
 use Rattle.refs.specs.declared.RefsRead.{RefsRead}
 use Rattle.refs.specs.declared.RefsRead.the-variants.{Value as Three, Short as NoRefs}
-use Rattle.refs.specs.Refs.{RefValues, readRef, refOf, RefIs, RefsValues, readRefs, refsOf, viewRefs}
+use Rattle.refs.specs.Refs.{refOf, RefIs, refsOf, viewRefs}
+use Rattle.grammar.specs.Tables.{RefValues, RefsValues}
+use Rattle.grammar.specs.Reading.{readRef, readRefs}
 use Rattle.refs.specs.declared.Sources.{Sources}
 use Rattle.refs.specs.declared.SourcesRead.{SourcesRead}
 use Rattle.refs.specs.declared.SourcesRead.the-variants.{Value as Names, Short as NamesNone}

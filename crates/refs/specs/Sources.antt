@@ -1,12 +1,12 @@
 -- The slots that an inter frame writes and those that it reads (VP9 6.2).
 -- Assumes nothing.
 use Prim.Native.Nat.{ℕ}
-use mathlib.Core.List.{List, _∷_}
 use Rattle.bits.specs.Refusal.{the}
-use Rattle.bits.specs.Syntax.{Field, fld}
-use Rattle.bits.specs.Reader.{Got, got, refused, Reader, give, _>>=_, field}
+use Rattle.bits.specs.Reader.{Got, got, refused, Reader, give, field, _>>=_}
 use Rattle.bits.specs.declared.Refusal.the-variants.{PastEnd}
-use Rattle.refs.specs.Refs.{RefsValues, noRefs, refsFields, readRefs, refsOf}
+use Rattle.refs.specs.Refs.{refsOf}
+use Rattle.grammar.specs.Tables.{RefsValues}
+use Rattle.grammar.specs.Reading.{noRefs, readRefs}
 use Rattle.refs.specs.declared.Sources.{Sources}
 use Rattle.refs.specs.declared.SourcesRead.{SourcesRead}
 use Rattle.refs.specs.declared.SourcesRead.the-variants.{Value, Short}
@@ -14,10 +14,6 @@ use Rattle.refs.specs.declared.SourcesRead.the-variants.{Value, Short}
 pub record SourcesValues : Type 0 where
   pub refresh-frame-flags : ℕ
   pub refs : RefsValues
-
--- spelling
-unfoldable pub sourcesFields : SourcesValues → List Field
-sourcesFields v = fld (the "refresh_frame_flags") 8 (v .refresh-frame-flags) ∷ refsFields (v .refs)
 
 -- reading
 abbrev pub noSources : SourcesValues

@@ -1,7 +1,8 @@
 // The references of an inter frame, and the slots that it writes.
 ghost use mathlib.Core.Path.{_≡_};
 ghost use Rattle.bits.specs.Reader.{over};
-ghost use Rattle.refs.specs.Refs.{RefIs, readRefs, refsOf, viewRefs};
+ghost use Rattle.refs.specs.Refs.{RefIs, refsOf, viewRefs};
+ghost use Rattle.grammar.specs.Reading.{readRefs};
 ghost use Rattle.refs.specs.Sources.{readSources, sourcesOf, viewSources};
 use bits::Bits;
 use bits::Cursor;

@@ -4,9 +4,11 @@ use Prim.Native.Nat.{ℕ, _≤_, _<_}
 use mathlib.Core.Path.{_≡_}
 use lib.Dec.{eqb, leb}
 use borrow.Author.Tests.{eq-eqb, ne-eqb, le-leb, lt-leb}
-use Rattle.bits.specs.Reader.{pick, got}
+use Rattle.bits.specs.Reader.{got}
+use Rattle.bits.specs.Syntax.{pick}
 use Rattle.sampling.specs.declared.Sampling.{Sampling}
-use Rattle.sampling.specs.Sampling.{rangeOf, subsampling, samplingOf}
+use Rattle.sampling.specs.Sampling.{samplingOf}
+use Rattle.grammar.specs.Record.{rangeOf, subsampling}
 
 -- a choice by a test, as a step along the branch that the code took
 module _ {A : Type 0} (a b : ℕ) (x p q : A) where

@@ -17,8 +17,11 @@ use Rattle.feature.specs.declared.Feature.{Feature}
 use Rattle.feature.specs.declared.FeatureRead.{FeatureRead}
 use Rattle.feature.specs.declared.FeatureRead.the-variants.{Value, Short}
 use Rattle.bits.specs.Many.{eachOf}
-use Rattle.feature.specs.Feature.{FeatureValues, readFeature, featureOf, FeatureIs, enabledOf, dataValue}
-use Rattle.segment_data.specs.Features.{readFeatures, rowOf, featuresOf}
+use Rattle.feature.specs.Feature.{featureOf, FeatureIs}
+use Rattle.grammar.specs.Tables.{FeatureValues}
+use Rattle.grammar.specs.Reading.{readFeature, readFeatures}
+use Rattle.grammar.specs.Settings.{enabledOf, dataValue, rowOf}
+use Rattle.segment_data.specs.Features.{featuresOf}
 use Rattle.segment_map.proofs.Rows.{seen, unseen, both, Filled, fill-start, fill-turn, fill-stop, fill-end}
 use Rattle.segment_data.proofs.Flat.{row-flat}
 

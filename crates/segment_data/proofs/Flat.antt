@@ -8,8 +8,8 @@ use native.Mathlib.Omega.{arith}
 use Rattle.bits.specs.Reader.{Got, got, refused, over, Reader}
 use Rattle.bits.specs.Many.{Times, many, folds, eachOf}
 use Rattle.bits.proofs.Many.{turn, turn-stop}
-use Rattle.feature.specs.Feature.{FeatureValues}
-use Rattle.segment_data.specs.Features.{rowOf}
+use Rattle.grammar.specs.Tables.{FeatureValues}
+use Rattle.grammar.specs.Settings.{rowOf}
 use Rattle.segment_map.proofs.Rows.{grown, grown-each, over-same}
 
 -- what comes after an answer

@@ -1,7 +1,8 @@
 // The features' part of segmentation_params().
 ghost use mathlib.Core.Path.{_≡_};
 ghost use Rattle.bits.specs.Reader.{over};
-ghost use Rattle.segment_data.specs.Features.{readFeatures, featuresOf, viewFeatures};
+ghost use Rattle.segment_data.specs.Features.{featuresOf, viewFeatures};
+ghost use Rattle.grammar.specs.Reading.{readFeatures};
 ghost use Rattle.segment_data.specs.Data.{DataIs};
 use bits::Bits;
 use bits::Cursor;

@@ -12,8 +12,11 @@ use Rattle.bits.specs.Refusal.{item}
 use Rattle.bits.specs.Reader.{got, refused, over, Reader}
 use Rattle.coded.specs.declared.ProbRead.{ProbRead}
 use Rattle.coded.specs.declared.ProbRead.the-variants.{Value as Prob, Short as NoProb}
-use Rattle.coded.specs.Prob.{ProbValues, readProb, probOf, ProbIs}
-use Rattle.segment_map.specs.Probs.{readProbs, probsOf}
+use Rattle.coded.specs.Prob.{ProbIs}
+use Rattle.grammar.specs.Tables.{ProbValues}
+use Rattle.grammar.specs.Reading.{readProb, readProbs}
+use Rattle.grammar.specs.Settings.{probOf}
+use Rattle.segment_map.specs.Probs.{probsOf}
 use Rattle.segment_map.proofs.Rows.{Filled, fill-start, fill-turn, fill-stop, fill-end}
 
 -- probability i, under the names x and y

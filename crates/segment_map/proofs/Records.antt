@@ -11,7 +11,8 @@ use Rattle.bits.specs.declared.Cursor.{Cursor}
 use Rattle.bits.specs.declared.Next.{Next}
 use Rattle.bits.specs.declared.Next.the-variants.{At, Refused}
 use Rattle.bits.specs.Reader.{got, groupIf}
-use Rattle.coded.specs.Prob.{noProb, probOf}
+use Rattle.grammar.specs.Reading.{noProb}
+use Rattle.grammar.specs.Settings.{probOf}
 use Rattle.settings.specs.declared.segmentation.SegmentationParams.{SegmentationParams}
 use Rattle.segment_map.specs.declared.ProbsRead.{ProbsRead}
 use Rattle.bits.specs.Many.{eachOf}

@@ -14,7 +14,8 @@ use Rattle.bits.specs.declared.Refusal.{Refusal}
 use Rattle.bits.specs.Reader.{Got, Read, bind, over, Reader, groupIf, viewNext}
 use Rattle.bits.proofs.Steps.{group-step, group-stop, gave, lacked}
 use Rattle.segment_map.specs.declared.ProbsRead.{ProbsRead}
-use Rattle.segment_map.specs.Probs.{ProbsValues, noProbs, readProbs, probsOf, ProbsAreIf}
+use Rattle.segment_map.specs.Probs.{ProbsValues, probsOf, ProbsAreIf}
+use Rattle.grammar.specs.Reading.{noProbs, readProbs}
 
 -- an answer that has its place beside its value
 module _ {A B C D : Type 0} (g : A → C) (m : Read A) (f : B → D) (k : A → ℕ → Read B) (v : C) (n : Next) (e : viewNext v n ≡ over g m) where

@@ -10,13 +10,17 @@ use Rattle.bits.specs.Reader.{Got, Read, refused, bind, over}
 use Rattle.bits.proofs.Steps.{group-stop, lacked}
 use Rattle.settings.specs.declared.segmentation.SegmentationParams.{SegmentationParams}
 use Rattle.segment_map.specs.declared.SegmentationRead.{SegmentationRead}
-use Rattle.segmentation.specs.Segmentation.{SegmentationValues, readSegmentation, segmentationOf, SegmentationIs}
+use Rattle.segmentation.specs.Segmentation.{SegmentationIs}
+use Rattle.grammar.specs.Tables.{SegmentationValues}
+use Rattle.grammar.specs.Reading.{readSegmentation}
+use Rattle.grammar.specs.Settings.{segmentationOf}
 use Rattle.segment_map.proofs.Steps.{beside-step}
+use mathlib.Core.Bool.{false}
 
 module _ {B D : Type 0} (s : List ℕ) (p : ℕ) (f : B → D) where
   module _ (old : SegmentationParams) (r : SegmentationRead) (k : SegmentationValues → ℕ → Read B) (e : SegmentationIs s p old r) where
-    pub segmentation-step : (c : Cursor) (o : Got D) → r .next ≡ At c → ((a : SegmentationValues) → r .seg ≡ segmentationOf old a → o ≡ over f (k a (c .at))) → o ≡ over f (bind (readSegmentation s p) k)
-    segmentation-step = beside-step (segmentationOf old) (readSegmentation s p) f k (r .seg) (r .next) (e .0)
+    pub segmentation-step : (c : Cursor) (o : Got D) → r .next ≡ At c → ((a : SegmentationValues) → r .seg ≡ segmentationOf false old a → o ≡ over f (k a (c .at))) → o ≡ over f (bind (readSegmentation s p) k)
+    segmentation-step = beside-step (segmentationOf false old) (readSegmentation s p) f k (r .seg) (r .next) (e .0)
 
     pub segmentation-stop : (u : Refusal) → r .next ≡ Refused u → refused u ≡ over f (bind (readSegmentation s p) k)
-    segmentation-stop u h = group-stop (segmentationOf old) (readSegmentation s p) f k u (lacked (r .seg) (r .next) u (e .0) h)
+    segmentation-stop u h = group-stop (segmentationOf false old) (readSegmentation s p) f k u (lacked (r .seg) (r .next) u (e .0) h)

@@ -18,7 +18,7 @@ defaultFilter =
       «mode_deltas» = replicate 2 (pos 0);
     }
 
--- reference deltas 1, 0, -1, -1 and mode deltas 0; the rest is kept
+-- the code's answer of `reset`: reference deltas 1, 0, -1, -1 and mode deltas 0; the rest is kept
 abbrev pub resetFilter : LoopFilterParams → LoopFilterParams
 resetFilter p =
     record {

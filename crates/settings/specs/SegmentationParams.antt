@@ -24,7 +24,7 @@ defaultSegmentation =
       «feature_data» = replicate 32 (pos 0);
     }
 
--- features disabled, their data 0, absolute flag false; the rest is kept
+-- the code's answer of `reset`: features disabled, their data 0, absolute flag false; the rest is kept
 abbrev pub resetSegmentation : SegmentationParams → SegmentationParams
 resetSegmentation p =
     record {

@@ -9,9 +9,10 @@ use borrow.Author.Tests.{ne-eqb}
 use lib.ListN.{length, List·getD-eq-default}
 use Rattle.bits.specs.declared.Cursor.{Cursor}
 use Rattle.bits.specs.declared.Refusal.the-variants.{PastEnd}
-use Rattle.bits.specs.Reader.{Got, Read, read, stopped, got, refused, bind, groupIf, over, Reader, give, _>>=_, pick, field, fieldIf}
+use Rattle.bits.specs.Reader.{Got, Read, read, stopped, got, refused, bind, groupIf, over, Reader, give, field, fieldIf, _>>=_}
+use Rattle.bits.specs.Syntax.{pick}
 use Rattle.bits.proofs.Steps.{group-step, group-stop, tail}
-use Rattle.coded.specs.Run.{readRun}
+use Rattle.grammar.specs.Reading.{readRun, noSizeValues, readFrameSize, readRender, readFound}
 use Rattle.coded.proofs.Run.{Counted, counted-full}
 use Rattle.settings.specs.FrameSize.{noSize}
 use Rattle.settings.specs.declared.size.FrameSize.{FrameSize}
@@ -19,10 +20,9 @@ use Rattle.size_with_refs.specs.declared.Found.{Found}
 use Rattle.size_with_refs.specs.declared.Found.the-variants.{At, Nothing, Short}
 use Rattle.refs.specs.declared.Refs.{Refs}
 use Rattle.sizes.specs.declared.Sizes.{Sizes}
-use Rattle.sizes.specs.Size.{noSizeValues, readFrameSize}
-use Rattle.sizes.specs.Render.{RenderValues, readRender}
+use Rattle.grammar.specs.Tables.{RenderValues, FoundValues, foundAt}
 use Rattle.sizes.specs.Sizes.{readSizes, withRender, sizesOf}
-use Rattle.size_with_refs.specs.SizeWithRefs.{readSizeWithRefs, slotSize, refSlot, sizeWithRefsOf, FoundIs, FoundValues, foundAt, readFound}
+use Rattle.size_with_refs.specs.SizeWithRefs.{readSizeWithRefs, slotSize, refSlot, sizeWithRefsOf, FoundIs}
 use mathlib.Core.Bool.{Bool, true, false, _&&_}
 use lib.Dec.{eqb}
 use Rattle.bits.specs.Refusal.{item}

@@ -8,7 +8,7 @@ use Rattle.settings.specs.declared.size.FrameSize.{FrameSize}
 use Rattle.sizes.specs.declared.Sizes.{Sizes}
 use Rattle.sizes.specs.declared.SizesRead.{SizesRead}
 use Rattle.sizes.specs.declared.SizesRead.the-variants.{Value as Both, Short as NoSizes}
-use Rattle.sizes.specs.Render.{readRender}
+use Rattle.grammar.specs.Reading.{readRender}
 use Rattle.sizes.specs.Sizes.{readSizes, withRender, sizesOf, viewSizes}
 
 -- the answer that an answer of the definition is

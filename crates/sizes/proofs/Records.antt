@@ -10,8 +10,10 @@ use Rattle.bits.specs.Reader.{got, groupIf}
 use Rattle.settings.specs.declared.size.FrameSize.{FrameSize}
 use Rattle.sizes.specs.declared.SizeRead.{SizeRead}
 use Rattle.sizes.specs.declared.SizeRead.the-variants.{Value as Size}
-use Rattle.sizes.specs.Size.{SizeValues, sizeOf, sizeOr, SizeIs, SizeOrIs}
-use Rattle.sizes.specs.Render.{RenderValues, renderOf}
+use Rattle.sizes.specs.Size.{sizeOr, SizeIs, SizeOrIs}
+use Rattle.grammar.specs.Tables.{SizeValues, RenderValues}
+use Rattle.grammar.specs.Header.{sizeOf}
+use Rattle.sizes.specs.Render.{renderOf}
 use Rattle.sizes.specs.Sizes.{withRender, sizesOf}
 
 pub render-read : (u : ℕ) (frame z : FrameSize) (a : SizeValues) (p : ℕ) → z ≡ sizeOr (eqb u 1) frame a

@@ -15,7 +15,10 @@ use Rattle.sizes.specs.declared.SizeRead.the-variants.{Value, Short}
 use Rattle.sizes.specs.declared.Sizes.{Sizes}
 use Rattle.sizes.specs.declared.SizesRead.{SizesRead}
 use Rattle.sizes.specs.declared.SizesRead.the-variants.{Value as Both, Short as NoSizes}
-use Rattle.sizes.specs.Size.{SizeValues, noSizeValues, readSize, sizeOf, sizeOr, SizeIs, SizeOrIs}
+use Rattle.sizes.specs.Size.{sizeOr, SizeIs, SizeOrIs}
+use Rattle.grammar.specs.Tables.{SizeValues}
+use Rattle.grammar.specs.Reading.{noSizeValues, readSize}
+use Rattle.grammar.specs.Header.{sizeOf}
 use Rattle.sizes.specs.Sizes.{SizesValues, readSizes, sizesOf, viewSizes}
 
 module _ {B D : Type 0} (s : List ℕ) (p : ℕ) (f : B → D) where

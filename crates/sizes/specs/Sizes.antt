@@ -1,12 +1,12 @@
 -- frame_size() and render_size(), as key frames and intra-only frames have them (VP9 6.2).
 -- Assumes nothing.
-use mathlib.Core.List.{List, _++_}
-use Rattle.bits.specs.Syntax.{Field}
 use Rattle.bits.specs.Reader.{Got, got, refused, Reader, give, _>>=_}
 use Rattle.bits.specs.declared.Refusal.the-variants.{PastEnd}
 use Rattle.settings.specs.declared.size.FrameSize.{FrameSize}
-use Rattle.sizes.specs.Size.{SizeValues, noSizeValues, frameFields, readFrameSize, sizeOf}
-use Rattle.sizes.specs.Render.{RenderValues, noRender, renderFields, readRender, renderOf}
+use Rattle.grammar.specs.Tables.{SizeValues, RenderValues}
+use Rattle.grammar.specs.Reading.{noSizeValues, readFrameSize, noRender, readRender}
+use Rattle.grammar.specs.Header.{sizeOf}
+use Rattle.sizes.specs.Render.{renderOf}
 use Rattle.sizes.specs.declared.Sizes.{Sizes}
 use Rattle.sizes.specs.declared.SizesRead.{SizesRead}
 use Rattle.sizes.specs.declared.SizesRead.the-variants.{Value, Short}
@@ -14,10 +14,6 @@ use Rattle.sizes.specs.declared.SizesRead.the-variants.{Value, Short}
 pub record SizesValues : Type 0 where
   pub size : SizeValues
   pub render : RenderValues
-
--- spelling
-unfoldable pub sizesFields : SizesValues → List Field
-sizesFields v = frameFields (v .size) ++ renderFields (v .render)
 
 -- reading
 abbrev pub noSizes : SizesValues

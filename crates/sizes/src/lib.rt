@@ -2,7 +2,7 @@
 ghost use mathlib.Core.Path.{_≡_};
 ghost use Rattle.bits.specs.Reader.{over};
 ghost use Rattle.sizes.specs.Size.{SizeIs, SizeOrIs};
-ghost use Rattle.sizes.specs.Render.{readRender};
+ghost use Rattle.grammar.specs.Reading.{readRender};
 ghost use Rattle.sizes.specs.Sizes.{readSizes, withRender, sizesOf, viewSizes};
 use bits::Bits;
 use bits::Cursor;

@@ -12,7 +12,8 @@ use Rattle.start.specs.declared.ProfileRead.the-variants.{Value as Profi
 use Rattle.start.specs.declared.SyncRead.{SyncRead}
 use Rattle.start.specs.declared.SyncRead.the-variants.{Value as Synced, Refused as Unsynced}
 use Rattle.start.specs.Profile.{ProfileValues, readProfile, profileNumber, viewProfile}
-use Rattle.start.specs.Sync.{readSync, syncOf, viewSync}
+use Rattle.start.specs.Sync.{syncOf, viewSync}
+use Rattle.grammar.specs.Reading.{readSync}
 
 module _ {B D : Type 0} (s : List ℕ) (p : ℕ) (f : B → D) where
   module _ (r : ProfileRead) (k : ProfileValues → ℕ → Read B) (e : viewProfile r ≡ over profileNumber (readProfile s p)) where

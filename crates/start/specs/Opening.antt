@@ -1,11 +1,10 @@
 -- uncompressed_header() up to show_existing_frame and the slot that it names (VP9 6.2).
 -- Assumes nothing.
 use Prim.Native.Nat.{ℕ}
-use mathlib.Core.List.{List, [], _∷_, _++_}
 use Rattle.bits.specs.Refusal.{the}
-use Rattle.bits.specs.Syntax.{Field, fld, flag, fldIf}
-use Rattle.bits.specs.Reader.{Got, got, refused, Reader, give, _>>=_, field, fieldIf}
-use Rattle.start.specs.Profile.{ProfileValues, profileFields, readProfile, profileNumber}
+use Rattle.bits.specs.Syntax.{flag}
+use Rattle.bits.specs.Reader.{Got, got, refused, Reader, give, field, fieldIf, _>>=_}
+use Rattle.start.specs.Profile.{ProfileValues, readProfile, profileNumber}
 use Rattle.start.specs.declared.Opening.{Opening}
 use Rattle.start.specs.declared.OpeningRead.{OpeningRead}
 use Rattle.start.specs.declared.OpeningRead.the-variants.{Value, Refused}
@@ -14,14 +13,6 @@ pub record OpeningValues : Type 0 where
   pub profile : ProfileValues
   pub show-existing-frame : ℕ
   pub frame-to-show-map-idx : ℕ
-
--- spelling
-unfoldable pub openingFields : OpeningValues → List Field
-openingFields v =
-    profileFields (v .profile)
-    ++ (fld (the "show_existing_frame") 1 (v .show-existing-frame)
-    ∷ fldIf (flag (v .show-existing-frame)) (the "frame_to_show_map_idx") 3 (v .frame-to-show-map-idx)
-    ∷ [])
 
 -- reading
 unfoldable pub readOpening : Reader OpeningValues

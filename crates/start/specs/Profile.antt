@@ -1,11 +1,9 @@
 -- The first fields of uncompressed_header() (VP9 6.2): marker, profile, and profile 3's reserved bit.
 -- Assumes nothing.
 use Prim.Native.Nat.{ℕ, _+_, _*_}
-use mathlib.Core.List.{List, [], _∷_}
 use lib.Dec.{eqb}
 use Rattle.bits.specs.Refusal.{the, frameMarker}
-use Rattle.bits.specs.Syntax.{Field, fld, fixed, fldIf}
-use Rattle.bits.specs.Reader.{Got, got, refused, Reader, give, _>>=_, field, must, fieldIf}
+use Rattle.bits.specs.Reader.{Got, got, refused, Reader, give, field, must, fieldIf, _>>=_}
 use Rattle.start.specs.declared.ProfileRead.{ProfileRead}
 use Rattle.start.specs.declared.ProfileRead.the-variants.{Value, Refused}
 
@@ -18,15 +16,6 @@ pub record ProfileValues : Type 0 where
 -- Profile, from its two bits
 abbrev pub profileNumber : ProfileValues → ℕ
 profileNumber v = v .profile-high-bit * 2 + v .profile-low-bit
-
--- spelling
-unfoldable pub profileFields : ProfileValues → List Field
-profileFields v =
-    fixed (the "frame_marker") 2 2 frameMarker (v .frame-marker)
-    ∷ fld (the "profile_low_bit") 1 (v .profile-low-bit)
-    ∷ fld (the "profile_high_bit") 1 (v .profile-high-bit)
-    ∷ fldIf (eqb (profileNumber v) 3) (the "reserved_zero") 1 (v .reserved-zero)
-    ∷ []
 
 -- reading
 unfoldable pub readProfile : Reader ProfileValues

@@ -2,7 +2,7 @@
 -- Assumes nothing.
 use Prim.Native.Nat.{ℕ}
 use mathlib.Core.Path.{_≡_}
-use mathlib.Core.Bool.{Bool}
+use mathlib.Core.Bool.{Bool, false}
 use mathlib.Core.List.{List}
 use mir.Val.{Fits}
 use mir.Syntax.{w16}
@@ -18,18 +18,17 @@ use Rattle.bits.proofs.Steps.{value-lt}
 use Rattle.settings.specs.declared.loop_filter.LoopFilterParams.{LoopFilterParams}
 use Rattle.settings.specs.declared.quantization.QuantizationParams.{QuantizationParams}
 use Rattle.settings.specs.declared.segmentation.SegmentationParams.{SegmentationParams}
-use Rattle.filter.specs.LoopFilter.{LoopFilterValues, loopFilterOf}
-use Rattle.quantizer.specs.Quantizer.{QuantizerValues, quantizerOf}
-use Rattle.segmentation.specs.Segmentation.{SegmentationValues, segmentationOf}
+use Rattle.grammar.specs.Tables.{LoopFilterValues, QuantizerValues, SegmentationValues, TilesValues}
+use Rattle.grammar.specs.Settings.{loopFilterOf, quantizerOf, segmentationOf}
 use Rattle.tiles.specs.declared.Tiles.{Tiles}
-use Rattle.tiles.specs.Tiles.{TilesValues, tilesOf}
+use Rattle.tiles.specs.Tiles.{tilesOf}
 use Rattle.tail.specs.declared.Settings.{Settings}
 use Rattle.tail.specs.declared.SettingsRead.{SettingsRead}
 use Rattle.tail.specs.Settings.{settingsOver, keptSettings, Kept, SettingsAre, startingFilter, startingSegmentation}
 use Rattle.tail.specs.Closing.{closingOf}
 
 pub settings-read : (lf : LoopFilterParams) (seg : SegmentationParams) (p : ℕ) (x : LoopFilterParams) (y : QuantizationParams) (z : SegmentationParams) (a : LoopFilterValues) (b : QuantizerValues) (d : SegmentationValues)
-    → x ≡ loopFilterOf lf a → y ≡ quantizerOf b → z ≡ segmentationOf seg d
+    → x ≡ loopFilterOf false lf a → y ≡ quantizerOf b → z ≡ segmentationOf false seg d
     → got (record { lf = x; quant = y; seg = z }) p ≡ got (settingsOver lf seg (record { loop-filter = a; quantizer = b; segmentation = d })) p
 unfolding settingsOver
 settings-read lf seg p x y z a b d ex ey ez = rw (ex, ey, ez)

@@ -1,12 +1,12 @@
 -- The end of uncompressed_header() (VP9 6.2): tiles, and the size of the compressed header.
 -- Assumes nothing.
 use Prim.Native.Nat.{ℕ}
-use mathlib.Core.List.{List, [], _∷_, _++_}
 use Rattle.bits.specs.Refusal.{the}
-use Rattle.bits.specs.Syntax.{Field, fld}
 use Rattle.bits.specs.Reader.{Got, got, refused, Reader, give, _>>=_, field}
 use Rattle.bits.specs.declared.Refusal.the-variants.{PastEnd}
-use Rattle.tiles.specs.Tiles.{TilesValues, noTiles, tilesFields, readTiles, tilesOf}
+use Rattle.tiles.specs.Tiles.{tilesOf}
+use Rattle.grammar.specs.Tables.{TilesValues}
+use Rattle.grammar.specs.Reading.{readTiles}
 use Rattle.tail.specs.declared.Closing.{Closing}
 use Rattle.tail.specs.declared.ClosingRead.{ClosingRead}
 use Rattle.tail.specs.declared.ClosingRead.the-variants.{Value, Short}
@@ -15,13 +15,7 @@ pub record ClosingValues : Type 0 where
   pub tiles : TilesValues
   pub header-size-in-bytes : ℕ
 
--- spelling, for a frame's width
-unfoldable pub closingFields : ℕ → ClosingValues → List Field
-closingFields width v = tilesFields width (v .tiles) ++ (fld (the "header_size_in_bytes") 16 (v .header-size-in-bytes) ∷ [])
-
 -- reading
-abbrev pub noClosing : ClosingValues
-noClosing = record { tiles = noTiles; header-size-in-bytes = 0 }
 
 unfoldable pub readClosing : ℕ → Reader ClosingValues
 readClosing width = do

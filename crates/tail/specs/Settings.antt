@@ -2,10 +2,10 @@
 -- Assumes nothing.
 use Prim.Native.Nat.{ℕ}
 use mathlib.Core.Path.{_≡_}
-use mathlib.Core.Bool.{Bool}
-use mathlib.Core.List.{List, _++_}
-use Rattle.bits.specs.Syntax.{Field}
-use Rattle.bits.specs.Reader.{Got, pick, Reader, give, _>>=_, over, viewNext}
+use mathlib.Core.Bool.{Bool, false}
+use mathlib.Core.List.{List}
+use Rattle.bits.specs.Syntax.{pick}
+use Rattle.bits.specs.Reader.{Got, Reader, give, _>>=_, over, viewNext}
 use Rattle.bits.specs.declared.Next.{Next}
 use Rattle.bits.specs.declared.Next.the-variants.{At, Refused}
 use Rattle.settings.specs.LoopFilterParams.{resetFilter}
@@ -13,9 +13,9 @@ use Rattle.settings.specs.QuantizationParams.{defaultQuantization}
 use Rattle.settings.specs.SegmentationParams.{resetSegmentation}
 use Rattle.settings.specs.declared.loop_filter.LoopFilterParams.{LoopFilterParams}
 use Rattle.settings.specs.declared.segmentation.SegmentationParams.{SegmentationParams}
-use Rattle.filter.specs.LoopFilter.{LoopFilterValues, noLoopFilter, loopFilterFields, readLoopFilter, loopFilterOf}
-use Rattle.quantizer.specs.Quantizer.{QuantizerValues, noQuantizer, quantizerFields, readQuantizer, quantizerOf}
-use Rattle.segmentation.specs.Segmentation.{SegmentationValues, segmentationFields, readSegmentation, segmentationOf, noSegmentation}
+use Rattle.grammar.specs.Tables.{LoopFilterValues, QuantizerValues, SegmentationValues}
+use Rattle.grammar.specs.Reading.{readLoopFilter, readQuantizer, readSegmentation}
+use Rattle.grammar.specs.Settings.{loopFilterOf, quantizerOf, segmentationOf}
 use Rattle.tail.specs.declared.Settings.{Settings}
 use Rattle.tail.specs.declared.SettingsRead.{SettingsRead}
 
@@ -23,10 +23,6 @@ pub record SettingsValues : Type 0 where
   pub loop-filter : LoopFilterValues
   pub quantizer : QuantizerValues
   pub segmentation : SegmentationValues
-
--- spelling
-unfoldable pub settingsFields : SettingsValues → List Field
-settingsFields v = loopFilterFields (v .loop-filter) ++ (quantizerFields (v .quantizer) ++ segmentationFields (v .segmentation))
 
 -- record: what an independent frame starts from, and any other: setup_past_independence()
 abbrev pub startingFilter : Bool → LoopFilterParams → LoopFilterParams
@@ -36,8 +32,6 @@ abbrev pub startingSegmentation : Bool → SegmentationParams → SegmentationPa
 startingSegmentation independent seg = pick independent (resetSegmentation seg) seg
 
 -- reading
-abbrev pub noSettings : SettingsValues
-noSettings = record { loop-filter = noLoopFilter; quantizer = noQuantizer; segmentation = noSegmentation }
 
 unfoldable pub readSettings : Reader SettingsValues
 readSettings = do
@@ -50,9 +44,9 @@ readSettings = do
 unfoldable pub settingsOver : LoopFilterParams → SegmentationParams → SettingsValues → Settings
 settingsOver lf seg v =
     record {
-      lf = loopFilterOf lf (v .loop-filter);
+      lf = loopFilterOf false lf (v .loop-filter);
       quant = quantizerOf (v .quantizer);
-      seg = segmentationOf seg (v .segmentation);
+      seg = segmentationOf false seg (v .segmentation);
     }
 
 -- and from the remembered ones

@@ -7,7 +7,8 @@ use Rattle.bits.specs.Reader.{Got, got, refused, over}
 use Rattle.tiles.specs.declared.Tiles.{Tiles}
 use Rattle.tiles.specs.declared.TilesRead.{TilesRead}
 use Rattle.tiles.specs.declared.TilesRead.the-variants.{Value, Short}
-use Rattle.tiles.specs.Tiles.{readTiles, tilesOf, viewTiles}
+use Rattle.tiles.specs.Tiles.{tilesOf, viewTiles}
+use Rattle.grammar.specs.Reading.{readTiles}
 
 -- the answer that an answer of the definition is
 asTiles : Got Tiles → TilesRead

@@ -1,6 +1,4 @@
-pub mod Limits
 pub mod Loops
 pub mod Records
-pub mod Laws
 pub mod Steps
 pub mod Exact

@@ -5,8 +5,8 @@ use mathlib.Core.Path.{_≡_}
 use native.Mathlib.Omega.{arith}
 use lib.Pow.{shl-exact}
 use borrow.Author.Count.{below-more}
-use Rattle.tiles.specs.Limits.{least, most}
-use Rattle.tiles.proofs.Limits.{unless, fewer, one-smallest, one-largest, least-smallest, most-largest}
+use Rattle.grammar.specs.Tables.{least, most}
+use Rattle.grammar.proofs.Limits.{unless, fewer, one-smallest, one-largest, least-smallest, most-largest}
 
 -- 64 x 2^j was too little for each j below k, and 64 x 2^26 is enough for any w
 pub record Tried (w k : ℕ) : Type 0 where

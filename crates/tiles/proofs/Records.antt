@@ -18,13 +18,13 @@ use Rattle.bits.specs.declared.Refusal.the-variants.{PastEnd}
 use Rattle.bits.specs.Read.{readBits, readBitsIf}
 use Rattle.bits.specs.Reader.{Got, Read, read, stopped, got, refused, over}
 use Rattle.bits.proofs.Steps.{value-lt, value-if-lt}
-use Rattle.coded.specs.Run.{readRun}
-use Rattle.coded.proofs.Run.{run-reads, run-few}
+use Rattle.grammar.specs.Reading.{readRun, readCols}
+use Rattle.grammar.proofs.Laws.{run-reads, run-few}
 use Rattle.tiles.specs.declared.CountRead.{CountRead}
 use Rattle.tiles.specs.declared.CountRead.the-variants.{Value as Count, Short as NoCount}
-use Rattle.tiles.specs.Limits.{superblocks, least, most}
-use Rattle.tiles.specs.Tiles.{increment, span, readCols, colsOf, tilesOf, viewCount}
-use Rattle.tiles.proofs.Limits.{least-most, most-le}
+use Rattle.grammar.specs.Tables.{superblocks, least, most, span}
+use Rattle.tiles.specs.Tiles.{colsOf, tilesOf, viewCount}
+use Rattle.grammar.proofs.Limits.{least-most, most-le}
 use Rattle.tiles.proofs.CountRead.{the-type}
 
 -- a count that was read, and one that wasn't
@@ -54,21 +54,21 @@ module _ (width w lo hi : ℕ) (ew : w ≡ superblocks width) (el : lo ≡ least
   pub cols-ordered : width < 2 ^ 32 → lo ≤ hi
   cols-ordered small = rw (lo-is, hi-is) (least-most (superblocks width) (omega arith))
 
-  module _ (s : List ℕ) (p : ℕ) (r : CountRead) (e : viewCount r ≡ over (λ k. k) (readRun increment 1 0 (hi - lo) s p)) where
+  module _ (s : List ℕ) (p : ℕ) (r : CountRead) (e : viewCount r ≡ over (λ k. k) (readRun "increment_tile_cols_log2" 1 0 (hi - lo) s p)) where
     module _ (k : ℕ) (c : Cursor) (h : r ≡ Count k c) where
       run : readCols width s p ≡ read k (c .at)
-      run = rw (← lo-is, ← hi-is) (counted (readRun increment 1 0 (hi - lo) s p) k (c .at) (rw h at e))
+      run = rw (← lo-is, ← hi-is) (counted (readRun "increment_tile_cols_log2" 1 0 (hi - lo) s p) k (c .at) (rw h at e))
 
       pub cols-fit : width < 2 ^ 32 → Fits w8 (lo + k)
       cols-fit small =
-          let few : k ≤ span width = run-few increment 0 (span width) k (run-reads increment 0 (span width) .sound s p k (c .at) run .1 .ranged) in
+          let few : k ≤ span width = run-few "increment_tile_cols_log2" 0 (span width) k (run-reads "increment_tile_cols_log2" 0 (span width) .sound s p k (c .at) run .1 .ranged) in
           record { fits = omega (arith, lo-is, hi-is, cols-ordered small, most-le (superblocks width)) }
 
       pub cols-read : got (lo + k) (c .at) ≡ over (colsOf width) (readCols width s p)
       cols-read = rw (run, lo-is)
 
     pub cols-short : OneOf (1 ∷ []) (tagOf the-type r) → refused PastEnd ≡ over (colsOf width) (readCols width s p)
-    cols-short o = rw (← lo-is, ← hi-is) (uncounted (colsOf width) (readRun increment 1 0 (hi - lo) s p) PastEnd (no-count r e o))
+    cols-short o = rw (← lo-is, ← hi-is) (uncounted (colsOf width) (readRun "increment_tile_cols_log2" 1 0 (hi - lo) s p) PastEnd (no-count r e o))
 
 -- the rows: the sum of two bits
 pub rows-fit : (w : Width) (s : List ℕ) (p q a m : ℕ) (x y : Bits) (c d : Cursor) (b : Bool)

@@ -15,7 +15,9 @@ use Rattle.tiles.specs.declared.TilesRead.{TilesRead}
 use Rattle.tiles.specs.declared.TilesRead.the-variants.{Value, Short}
 use Rattle.tiles.specs.declared.CountRead.{CountRead}
 use Rattle.tiles.specs.declared.CountRead.the-variants.{Value as Count}
-use Rattle.tiles.specs.Tiles.{TilesValues, readCols, readTiles, colsOf, tilesOf, viewTiles, viewCount}
+use Rattle.tiles.specs.Tiles.{colsOf, tilesOf, viewTiles, viewCount}
+use Rattle.grammar.specs.Tables.{TilesValues}
+use Rattle.grammar.specs.Reading.{readCols, readTiles}
 use Rattle.tiles.proofs.TilesRead.{the-type}
 use Rattle.tiles.proofs.CountRead.{the-type as the-count}
 use Rattle.tiles.proofs.Records.{no-count}

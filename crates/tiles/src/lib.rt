@@ -1,9 +1,9 @@
 // The tiles of a frame: tile_info() of VP9.
 ghost use mathlib.Core.Path.{_≡_};
 ghost use Rattle.bits.specs.Reader.{over};
-ghost use Rattle.coded.specs.Run.{readRun};
-ghost use Rattle.tiles.specs.Limits.{superblocks, least, most};
-ghost use Rattle.tiles.specs.Tiles.{increment, readCols, readTiles, colsOf, tilesOf, viewCount, viewTiles};
+ghost use Rattle.grammar.specs.Reading.{readRun, readCols, readTiles};
+ghost use Rattle.grammar.specs.Tables.{superblocks, least, most};
+ghost use Rattle.tiles.specs.Tiles.{colsOf, tilesOf, viewCount, viewTiles};
 use bits::Bits;
 use bits::Cursor;
 
@@ -62,7 +62,7 @@ enum CountRead {
 
 // How many increments there are: a 0 or the limit ends them.
 fn increments(s: &[u8], c: Cursor, limit: u8) -> CountRead
-    ensures { λ r. ⌜ viewCount r ≡ over (λ k. k) (readRun increment 1 0 limit (now (s .entry)) (c .at)) ⌝ }
+    ensures { λ r. ⌜ viewCount r ≡ over (λ k. k) (readRun "increment_tile_cols_log2" 1 0 limit (now (s .entry)) (c .at)) ⌝ }
 {
     let mut k: u8 = 0;
     let mut at = c;

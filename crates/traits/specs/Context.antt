@@ -2,10 +2,9 @@
 -- Assumes nothing.
 use Prim.Native.Nat.{ℕ}
 use mathlib.Core.Bool.{Bool, true, not}
-use mathlib.Core.List.{List, [], _∷_}
 use Rattle.bits.specs.Refusal.{the}
-use Rattle.bits.specs.Syntax.{Field, fld, flag, fldIf}
-use Rattle.bits.specs.Reader.{Got, got, refused, pick, Reader, give, _>>=_, field, fieldIf}
+use Rattle.bits.specs.Syntax.{flag, pick}
+use Rattle.bits.specs.Reader.{Got, got, refused, Reader, give, field, fieldIf, _>>=_}
 use Rattle.bits.specs.declared.Refusal.the-variants.{PastEnd}
 use Rattle.traits.specs.declared.Context.{Context}
 use Rattle.traits.specs.declared.ContextRead.{ContextRead}
@@ -15,14 +14,6 @@ pub record ContextValues : Type 0 where
   pub refresh-frame-context : ℕ
   pub frame-parallel-decoding-mode : ℕ
   pub frame-context-idx : ℕ
-
--- spelling, for a frame that is error resilient or not
-unfoldable pub contextFields : Bool → ContextValues → List Field
-contextFields resilient v =
-    fldIf (not resilient) (the "refresh_frame_context") 1 (v .refresh-frame-context)
-    ∷ fldIf (not resilient) (the "frame_parallel_decoding_mode") 1 (v .frame-parallel-decoding-mode)
-    ∷ fld (the "frame_context_idx") 2 (v .frame-context-idx)
-    ∷ []
 
 -- record: an error-resilient frame is decoded in parallel
 abbrev pub parallelOf : Bool → ℕ → Bool

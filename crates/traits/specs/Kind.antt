@@ -2,10 +2,9 @@
 -- Assumes nothing.
 use Prim.Native.Nat.{ℕ}
 use mathlib.Core.Bool.{Bool, not}
-use mathlib.Core.List.{List, [], _∷_}
 use Rattle.bits.specs.Refusal.{the}
-use Rattle.bits.specs.Syntax.{Field, flag, fldIf}
-use Rattle.bits.specs.Reader.{Got, got, refused, Reader, give, _>>=_, fieldIf}
+use Rattle.bits.specs.Syntax.{flag}
+use Rattle.bits.specs.Reader.{Got, got, refused, Reader, give, fieldIf, _>>=_}
 use Rattle.bits.specs.declared.Refusal.the-variants.{PastEnd}
 use Rattle.traits.specs.declared.Kind.{Kind}
 use Rattle.traits.specs.declared.KindRead.{KindRead}
@@ -14,13 +13,6 @@ use Rattle.traits.specs.declared.KindRead.the-variants.{Value, Short}
 pub record KindValues : Type 0 where
   pub intra-only : ℕ
   pub reset-frame-context : ℕ
-
--- spelling, for a frame that is shown or not, and error resilient or not
-unfoldable pub kindFields : Bool → Bool → KindValues → List Field
-kindFields shown resilient v =
-    fldIf (not shown) (the "intra_only") 1 (v .intra-only)
-    ∷ fldIf (not resilient) (the "reset_frame_context") 2 (v .reset-frame-context)
-    ∷ []
 
 -- reading
 abbrev pub noKind : KindValues

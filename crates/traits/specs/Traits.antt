@@ -1,11 +1,10 @@
 -- frame_type, show_frame and error_resilient_mode (VP9 6.2).
 -- Assumes nothing.
 use Prim.Native.Nat.{ℕ}
-use mathlib.Core.List.{List, [], _∷_}
 use lib.Dec.{eqb}
 use Rattle.bits.specs.Refusal.{the}
-use Rattle.bits.specs.Syntax.{Field, fld, flag}
-use Rattle.bits.specs.Reader.{Got, got, refused, Reader, give, _>>=_, field}
+use Rattle.bits.specs.Syntax.{flag}
+use Rattle.bits.specs.Reader.{Got, got, refused, Reader, give, field, _>>=_}
 use Rattle.bits.specs.declared.Refusal.the-variants.{PastEnd}
 use Rattle.traits.specs.declared.Traits.{Traits}
 use Rattle.traits.specs.declared.TraitsRead.{TraitsRead}
@@ -15,14 +14,6 @@ pub record TraitsValues : Type 0 where
   pub frame-type : ℕ
   pub show-frame : ℕ
   pub error-resilient-mode : ℕ
-
--- spelling
-unfoldable pub traitsFields : TraitsValues → List Field
-traitsFields v =
-    fld (the "frame_type") 1 (v .frame-type)
-    ∷ fld (the "show_frame") 1 (v .show-frame)
-    ∷ fld (the "error_resilient_mode") 1 (v .error-resilient-mode)
-    ∷ []
 
 -- reading
 abbrev pub noTraits : TraitsValues

@@ -1,5 +1,5 @@
 use Rattle.bits.proofs.Steps.{reading}
-use Rattle.coded.specs.Delta.{readDelta}
+use Rattle.grammar.specs.Reading.{readDelta}
 use Rattle.coded.proofs.Records.{narrow, short-narrow, value-narrow, magnitude-small, delta-read}
 use borrow.Author.Needs.{needs}
 use Rattle.coded.proofs.coded_delta.Statement.{statement}

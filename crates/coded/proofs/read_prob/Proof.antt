@@ -1,5 +1,5 @@
 use Rattle.bits.proofs.Steps.{reading}
-use Rattle.coded.specs.Prob.{readProb}
+use Rattle.grammar.specs.Reading.{readProb}
 use Rattle.coded.proofs.Records.{prob-fits, prob-read, prob-none}
 use borrow.Author.Needs.{needs}
 use Rattle.coded.proofs.read_prob.Statement.{statement}

@@ -1,5 +1,5 @@
 use Rattle.bits.proofs.Steps.{reading}
-use Rattle.color.specs.Color.{readColor}
+use Rattle.grammar.specs.Reading.{readColor}
 use Rattle.color.proofs.Records.{color-read}
 use Rattle.sampling.proofs.Steps.{sampling-step, sampling-stop}
 use borrow.Author.Needs.{needs}

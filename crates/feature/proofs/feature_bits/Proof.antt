@@ -1,4 +1,4 @@
-use Rattle.feature.specs.Feature.{featureBits}
+use Rattle.grammar.specs.Tables.{featureBits}
 use Rattle.feature.proofs.Tables.{past-table}
 use borrow.Author.Needs.{needs}
 use mathlib.Core.Path.{refl}

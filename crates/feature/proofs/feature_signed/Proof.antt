@@ -1,4 +1,4 @@
-use Rattle.feature.specs.Feature.{featureSigned}
+use Rattle.grammar.specs.Tables.{featureSigned}
 use Rattle.feature.proofs.Tables.{past-table}
 use borrow.Author.Needs.{needs}
 use mathlib.Core.Path.{refl}

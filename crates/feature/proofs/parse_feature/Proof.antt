@@ -1,5 +1,5 @@
 use Rattle.bits.proofs.Steps.{reading}
-use Rattle.feature.specs.Feature.{readFeature}
+use Rattle.grammar.specs.Reading.{readFeature}
 use Rattle.feature.proofs.Records.{value-fits, feature-read}
 use Rattle.feature.proofs.Tables.{value-step, value-stop}
 use borrow.Author.Needs.{needs}

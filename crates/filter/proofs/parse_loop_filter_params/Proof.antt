@@ -1,5 +1,5 @@
 use Rattle.bits.proofs.Steps.{reading}
-use Rattle.filter.specs.LoopFilter.{readLoopFilter}
+use Rattle.grammar.specs.Reading.{readLoopFilter}
 use Rattle.loop_deltas.proofs.Readings.{group-left, group-taken, group-tail}
 use Rattle.loop_deltas.proofs.Steps.{settings-stop}
 use Rattle.filter.proofs.Records.{byte-fits, filter-moved, filter-plain}

@@ -1,4 +1,4 @@
-use Rattle.loop_deltas.specs.LoopDeltas.{readModeDeltas}
+use Rattle.grammar.specs.Reading.{readModeDeltas}
 use Rattle.coded.proofs.Steps.{delta-step, delta-stop}
 use Rattle.loop_deltas.proofs.Readings.{twice}
 use Rattle.loop_deltas.proofs.Records.{mode-deltas}

@@ -1,4 +1,4 @@
-use Rattle.loop_deltas.specs.LoopDeltas.{readRefDeltas}
+use Rattle.grammar.specs.Reading.{readRefDeltas}
 use Rattle.coded.proofs.Steps.{delta-step, delta-stop}
 use Rattle.loop_deltas.proofs.Readings.{four-times}
 use Rattle.loop_deltas.proofs.Records.{ref-deltas}

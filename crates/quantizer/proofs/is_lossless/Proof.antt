@@ -1,5 +1,5 @@
 use borrow.Author.Needs.{needs}
-use Rattle.quantizer.specs.Quantizer.{lossless}
+use Rattle.grammar.specs.Settings.{lossless}
 use Rattle.quantizer.proofs.Records.{zeros}
 use Rattle.quantizer.proofs.is_lossless.Statement.{statement}
 use Rattle.quantizer.proofs.is_lossless.Tie as tie

@@ -1,5 +1,5 @@
 use Rattle.bits.proofs.Steps.{reading}
-use Rattle.quantizer.specs.Quantizer.{readQuantizer}
+use Rattle.grammar.specs.Reading.{readQuantizer}
 use Rattle.quantizer.proofs.Steps.{delta-q-step, delta-q-stop}
 use Rattle.quantizer.proofs.Records.{base-fits, quantizer}
 use borrow.Author.Needs.{needs}

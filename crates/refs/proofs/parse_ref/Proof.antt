@@ -1,5 +1,6 @@
 use Rattle.bits.proofs.Steps.{reading}
-use Rattle.refs.specs.Refs.{readRef, refOf}
+use Rattle.refs.specs.Refs.{refOf}
+use Rattle.grammar.specs.Reading.{readRef}
 use Rattle.refs.proofs.Records.{byte-fits}
 use borrow.Author.Needs.{needs}
 use Rattle.refs.proofs.parse_ref.Statement.{statement}

@@ -1,4 +1,4 @@
-use Rattle.refs.specs.Refs.{readRefs}
+use Rattle.grammar.specs.Reading.{readRefs}
 use Rattle.refs.proofs.Steps.{ref-step, ref-stop}
 use Rattle.refs.proofs.Records.{refs-read}
 use borrow.Author.Needs.{needs}

@@ -1,6 +1,6 @@
 use mathlib.Core.Path.{refl}
 use Rattle.bits.proofs.Steps.{reading}
-use Rattle.segmentation.specs.Segmentation.{readSegmentation}
+use Rattle.grammar.specs.Reading.{readSegmentation}
 use Rattle.segment_map.proofs.Records.{old-kept, none-kept}
 use Rattle.segment_map.proofs.Steps.{there-step, there-stop, absent}
 use Rattle.segmentation.proofs.Records.{off-read, parts-read}

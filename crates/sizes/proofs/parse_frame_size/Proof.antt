@@ -1,5 +1,6 @@
 use Rattle.bits.proofs.Steps.{reading, sum-fits}
-use Rattle.sizes.specs.Size.{readSize, sizeOf}
+use Rattle.grammar.specs.Reading.{readSize}
+use Rattle.grammar.specs.Header.{sizeOf}
 use borrow.Author.Needs.{needs}
 use Rattle.sizes.proofs.parse_frame_size.Statement.{statement}
 use Rattle.sizes.proofs.parse_frame_size.Tie as tie

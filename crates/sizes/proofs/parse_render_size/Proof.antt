@@ -1,5 +1,5 @@
 use Rattle.bits.proofs.Steps.{reading}
-use Rattle.sizes.specs.Render.{readRender}
+use Rattle.grammar.specs.Reading.{readRender}
 use Rattle.sizes.proofs.Steps.{size-or-step, size-or-stop}
 use Rattle.sizes.proofs.Records.{render-read}
 use borrow.Author.Needs.{needs}

@@ -1,5 +1,5 @@
 use Rattle.bits.proofs.Steps.{reading}
-use Rattle.start.specs.Sync.{readSync}
+use Rattle.grammar.specs.Reading.{readSync}
 use borrow.Author.Needs.{needs}
 use Rattle.start.proofs.parse_frame_sync_code.Statement.{statement}
 use Rattle.start.proofs.parse_frame_sync_code.Tie as tie

@@ -2,12 +2,11 @@ use Prim.Native.Nat.{_-_}
 use native.Mathlib.Omega.{arith}
 use borrow.Author.Needs.{needs}
 use Rattle.coded.proofs.Run.{Counted, counted-none, counted-more, counted-end, counted-short, counted-full}
-use Rattle.tiles.specs.Tiles.{increment}
 use Rattle.tiles.proofs.increments.Statement.{statement}
 use Rattle.tiles.proofs.increments.Tie as tie
 
 abbrev Inv-loop : tie.InvT-loop
-Inv-loop s limit k₀ at₀ k at = Counted increment 1 limit s (at₀ .at) k (at .at)
+Inv-loop s limit k₀ at₀ k at = Counted "increment_tile_cols_log2" 1 limit s (at₀ .at) k (at .at)
 
 abbrev μ-loop : tie.MeasureT-loop
 μ-loop s limit k₀ at₀ k at = limit - k

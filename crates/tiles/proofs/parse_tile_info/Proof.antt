@@ -1,6 +1,6 @@
 use borrow.Author.Needs.{needs}
 use Rattle.bits.proofs.Steps.{reading}
-use Rattle.tiles.specs.Tiles.{readTiles}
+use Rattle.grammar.specs.Reading.{readTiles}
 use Rattle.tiles.proofs.Records.{rows-fit, tiles-read}
 use Rattle.tiles.proofs.Steps.{cols-step, cols-stop}
 use Rattle.tiles.proofs.parse_tile_info.Statement.{statement}

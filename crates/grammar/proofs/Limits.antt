@@ -8,8 +8,9 @@ use native.Mathlib.Nat.{add-zero, add-suc, suc-add, pow-succ', le-antisymm, eq-o
 use native.Mathlib.Omega.{arith}
 use lib.Pow.{pow-pos, shr-shr}
 use borrow.Author.Tests.{leb-true, leb-false, ltb-true, ltb-false, le-leb, lt-ltb}
-use Rattle.bits.specs.Reader.{pick}
-use Rattle.tiles.specs.Limits.{superblocks, first, reaches, falls, least, most, Smallest, Largest}
+use Rattle.bits.specs.Syntax.{pick}
+use Rattle.grammar.specs.Limits.{reaches, falls, Smallest, Largest}
+use Rattle.grammar.specs.Tables.{superblocks, first, least, most}
 
 -- VP9 counts blocks of 8 first, MiCols, and then Sb64Cols: compute_image_size() (VP9 6.2.6)
 pub by-blocks : (width : ℕ) → superblocks width ≡ ((width + 7) / 8 + 7) / 8

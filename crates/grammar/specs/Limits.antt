@@ -1,18 +1,8 @@
 -- The limits of a frame's tile columns: calc_min_log2_tile_cols() and calc_max_log2_tile_cols() (VP9 6.2.14).
 -- Assumes nothing.
-use Prim.Native.Nat.{ℕ, zero, suc, _+_, _*_, _/_, _^_, _≤_, _<_}
+use Prim.Native.Nat.{ℕ, suc, _*_, _/_, _^_, _≤_, _<_}
 use mathlib.Core.Bool.{Bool}
 use lib.Dec.{leb, ltb}
-use Rattle.bits.specs.Reader.{pick}
-
--- a width in superblocks of 64
-abbrev pub superblocks : ℕ → ℕ
-superblocks width = (width + 63) / 64
-
--- of the n numbers from k on, the first that has t; the one past them where none has it
-unfoldable pub first : (ℕ → Bool) → ℕ → ℕ → ℕ
-first t zero k = k
-first t (suc n) k = pick (t k) k (first t n (suc k))
 
 -- 64 x 2^k reaches w; and w / 2^(k + 1) falls below 4
 abbrev pub reaches : ℕ → ℕ → Bool
@@ -20,13 +10,6 @@ reaches w k = leb w (64 * 2 ^ k)
 
 abbrev pub falls : ℕ → ℕ → Bool
 falls w k = ltb (w / 2 ^ suc k) 4
-
--- the limits for w superblocks below 2^32, where 32 numbers are enough to try
-unfoldable pub least : ℕ → ℕ
-least w = first (reaches w) 32 0
-
-unfoldable pub most : ℕ → ℕ
-most w = first (falls w) 32 0
 
 -- what they are: the smallest k with 64 x 2^k >= w, and the largest k with w / 2^k >= 4, or 0
 pub record Smallest (w k : ℕ) : Type 0 where
