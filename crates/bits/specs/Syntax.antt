@@ -31,6 +31,11 @@ fixed x w m k n = record { name = x; width = w; demand = only m k; number = n }
 abbrev pub flag : ℕ → Bool
 flag n = eqb n 1
 
+-- fields, and then others
+infixr 67 _then_
+abbrev pub _then_ : List Field → List Field → List Field
+fs then gs = fs ++ gs
+
 -- the same fields without bits: no number but 0 is in range
 abbrev pub bare : List Field → List Field
 bare [] = []

@@ -8,7 +8,7 @@ use lib.Dec.{eqb, ltb}
 use lib.ListN.{getD}
 use Rattle.bits.specs.Bit.{Begins}
 use Rattle.bits.specs.Refusal.{the, frameMarker, syncCode}
-use Rattle.bits.specs.Syntax.{Field, fld, fixed, flag, pick, fldIf, optional, flat, Ranged}
+use Rattle.bits.specs.Syntax.{Field, fld, fixed, flag, _then_, pick, fldIf, optional, flat, Ranged}
 use Rattle.settings.specs.FrameSize.{noSize}
 use Rattle.settings.specs.declared.size.FrameSize.{FrameSize}
 use Rattle.grammar.specs.Tables.{ColorValues, colorFields, SizeValues, sizeFields, RenderValues, renderFields, RefsValues, refsFields, FoundValues, foundFields, foundAt, LoopFilterValues, loopFilterFields, QuantizerValues, quantizerFields, SegmentationValues, segmentationFields, TilesValues, tilesFields}
@@ -79,24 +79,24 @@ frameFields slots profile v =
     ∷ fld (the "error_resilient_mode") 1 (v .error-resilient-mode)
     ∷ fldIf (not (isKey v) && not (flag (v .show-frame))) (the "intra_only") 1 (v .intra-only)
     ∷ fldIf (not (isKey v) && not (flag (v .error-resilient-mode))) (the "reset_frame_context") 2 (v .reset-frame-context)
-    ∷ (optional (isIntra v) (fixed (the "frame_sync_code") 24 0x498342 syncCode (v .frame-sync-code) ∷ [])
-    ++ (optional (isColored profile v) (colorFields profile (v .color))
-    ++ (fldIf (not (isKey v)) (the "refresh_frame_flags") 8 (v .refresh-frame-flags)
-    ∷ (optional (not (isIntra v)) (refsFields (v .refs))
-    ++ (optional (not (isIntra v)) (foundFields (v .found-ref))
-    ++ (optional (eqb (foundAt (v .found-ref)) 3) (sizeFields (the "frame_width_minus_1") (the "frame_height_minus_1") (v .size))
-    ++ (renderFields (v .render)
-    ++ (fldIf (not (isIntra v)) (the "allow_high_precision_mv") 1 (v .allow-high-precision-mv)
+    ∷ optional (isIntra v) (fixed (the "frame_sync_code") 24 0x498342 syncCode (v .frame-sync-code) ∷ [])
+    then optional (isColored profile v) (colorFields profile (v .color))
+    then fldIf (not (isKey v)) (the "refresh_frame_flags") 8 (v .refresh-frame-flags)
+    ∷ optional (not (isIntra v)) (refsFields (v .refs))
+    then optional (not (isIntra v)) (foundFields (v .found-ref))
+    then optional (eqb (foundAt (v .found-ref)) 3) (sizeFields (the "frame_width_minus_1") (the "frame_height_minus_1") (v .size))
+    then renderFields (v .render)
+    then fldIf (not (isIntra v)) (the "allow_high_precision_mv") 1 (v .allow-high-precision-mv)
     ∷ fldIf (not (isIntra v)) (the "is_filter_switchable") 1 (v .is-filter-switchable)
     ∷ fldIf (not (isIntra v) && not (flag (v .is-filter-switchable))) (the "raw_interpolation_filter") 2 (v .raw-interpolation-filter)
     ∷ fldIf (not (flag (v .error-resilient-mode))) (the "refresh_frame_context") 1 (v .refresh-frame-context)
     ∷ fldIf (not (flag (v .error-resilient-mode))) (the "frame_parallel_decoding_mode") 1 (v .frame-parallel-decoding-mode)
     ∷ fld (the "frame_context_idx") 2 (v .frame-context-idx)
-    ∷ (loopFilterFields (v .loop-filter)
-    ++ (quantizerFields (v .quantizer)
-    ++ (segmentationFields (v .segmentation)
-    ++ (tilesFields (frameSize slots v .width) (v .tiles)
-    ++ (fld (the "header_size_in_bytes") 16 (v .header-size-in-bytes) ∷ [])))))))))))))
+    ∷ loopFilterFields (v .loop-filter)
+    then quantizerFields (v .quantizer)
+    then segmentationFields (v .segmentation)
+    then tilesFields (frameSize slots v .width) (v .tiles)
+    then fld (the "header_size_in_bytes") 16 (v .header-size-in-bytes) ∷ []
 
 abbrev pub profileNumber : HeaderValues → ℕ
 profileNumber v = v .profile-high-bit * 2 + v .profile-low-bit

@@ -7,7 +7,7 @@ use mathlib.Core.List.{List, [], _∷_, _++_}
 use lib.Dec.{eqb, leb, ltb}
 use lib.ListN.{getD}
 use Rattle.bits.specs.Refusal.{Name, the, item}
-use Rattle.bits.specs.Syntax.{Field, fld, flag, pick, fldIf, optional}
+use Rattle.bits.specs.Syntax.{Field, fld, flag, _then_, pick, fldIf, optional}
 use Rattle.bits.specs.Many.{Times, manyFields}
 
 -- color_config() (6.2.2), for a profile: profiles 2 and 3 code the depth, and 1 and 3 the subsampling, unless the colour space is RGB, which has no range either
@@ -77,7 +77,7 @@ unfoldable pub refFields : ℕ → RefValues → List Field
 refFields i v = fld (item "ref_frame_idx" i) 3 (v .ref-frame-idx) ∷ fld (item "ref_frame_sign_bias" i) 1 (v .ref-frame-sign-bias) ∷ []
 
 unfoldable pub refsFields : RefsValues → List Field
-refsFields v = refFields 0 (v .last) ++ (refFields 1 (v .golden) ++ refFields 2 (v .altref))
+refsFields v = refFields 0 (v .last) then refFields 1 (v .golden) then refFields 2 (v .altref)
 
 -- the flags of frame_size_with_refs() (6.2.5), up to the first that is 1
 pub record FoundValues : Type 0 where
@@ -126,8 +126,8 @@ modeDelta i = deltaFields (item "update_mode_delta" i) (item "loop_filter_mode_d
 unfoldable pub loopDeltasFields : LoopDeltasValues → List Field
 loopDeltasFields v =
     fld (the "loop_filter_delta_update") 1 (v .delta-update)
-    ∷ (optional (flag (v .delta-update)) (manyFields refDelta 0 4 (v .ref-deltas))
-    ++ optional (flag (v .delta-update)) (manyFields modeDelta 0 2 (v .mode-deltas)))
+    ∷ optional (flag (v .delta-update)) (manyFields refDelta 0 4 (v .ref-deltas))
+    then optional (flag (v .delta-update)) (manyFields modeDelta 0 2 (v .mode-deltas))
 
 unfoldable pub loopFilterFields : LoopFilterValues → List Field
 loopFilterFields v =
@@ -149,7 +149,7 @@ deltaQ i = deltaFields (item "delta_coded" i) (item "delta_q" i) (item "delta_q_
 unfoldable pub quantizerFields : QuantizerValues → List Field
 quantizerFields v =
     fld (the "base_q_idx") 8 (v .base-q-idx)
-    ∷ (deltaQ 0 (v .delta-q-y-dc) ++ (deltaQ 1 (v .delta-q-uv-dc) ++ deltaQ 2 (v .delta-q-uv-ac)))
+    ∷ deltaQ 0 (v .delta-q-y-dc) then deltaQ 1 (v .delta-q-uv-dc) then deltaQ 2 (v .delta-q-uv-ac)
 
 -- read_prob() (6.2.12): n probabilities y, each behind its flag x
 pub record ProbValues : Type 0 where
@@ -204,9 +204,9 @@ pub record SegmentationValues : Type 0 where
 unfoldable pub mapFields : MapValues → List Field
 mapFields v =
     fld (the "segmentation_update_map") 1 (v .update-map)
-    ∷ (optional (flag (v .update-map)) (probsFields "tree_prob_coded" "segmentation_tree_probs" 7 (v .tree-probs))
-    ++ (fldIf (flag (v .update-map)) (the "segmentation_temporal_update") 1 (v .temporal-update)
-    ∷ optional (flag (v .temporal-update)) (probsFields "pred_prob_coded" "segmentation_pred_prob" 3 (v .pred-probs))))
+    ∷ optional (flag (v .update-map)) (probsFields "tree_prob_coded" "segmentation_tree_probs" 7 (v .tree-probs))
+    then fldIf (flag (v .update-map)) (the "segmentation_temporal_update") 1 (v .temporal-update)
+    ∷ optional (flag (v .temporal-update)) (probsFields "pred_prob_coded" "segmentation_pred_prob" 3 (v .pred-probs))
 
 unfoldable pub featuresFields : Times 8 (Times 4 FeatureValues) → List Field
 featuresFields = manyFields (λ i. manyFields (featureFields i) 0 4) 0 8
@@ -220,8 +220,8 @@ dataFields v =
 unfoldable pub segmentationFields : SegmentationValues → List Field
 segmentationFields v =
     fld (the "segmentation_enabled") 1 (v .enabled)
-    ∷ (optional (flag (v .enabled)) (mapFields (v .map-part))
-    ++ optional (flag (v .enabled)) (dataFields (v .data-part)))
+    ∷ optional (flag (v .enabled)) (mapFields (v .map-part))
+    then optional (flag (v .enabled)) (dataFields (v .data-part))
 
 -- a run of k bits 1 in a row, the first of them number i of the name x, which a 0 ends unless there are n; past n of them there are no bits, and so k is 0
 unfoldable pub runFields : String → ℕ → ℕ → ℕ → List Field
@@ -257,6 +257,6 @@ span width = most (superblocks width) - least (superblocks width)
 unfoldable pub tilesFields : ℕ → TilesValues → List Field
 tilesFields width v =
     runFields "increment_tile_cols_log2" 0 (span width) (v .increment-tile-cols-log2)
-    ++ (fld (the "tile_rows_log2") 1 (v .tile-rows-log2)
+    then fld (the "tile_rows_log2") 1 (v .tile-rows-log2)
     ∷ fldIf (flag (v .tile-rows-log2)) (the "increment_tile_rows_log2") 1 (v .increment-tile-rows-log2)
-    ∷ [])
+    ∷ []
