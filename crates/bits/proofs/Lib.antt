@@ -7,4 +7,5 @@ pub mod Laws
 pub mod Many
 pub mod Told
 pub mod Steps
+pub mod Binds
 pub mod Exact

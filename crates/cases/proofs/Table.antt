@@ -24,7 +24,7 @@ use Rattle.cases.specs.Table.{framesFrom, table, AllHold}
 pub all-hold : AllHold table
 unfolding
     Bit.spell Bit.bitsOf Bit.bitAt Bit.reach Bit.Stands Bit.number Bit.fits Bit.missing Many.manyFields Reader.field
-    Reader.must Reader.groupIf Reader.fieldIf Tables.samplingFields Tables.colorFields Tables.sizeFields Tables.renderFields Tables.refFields Tables.refsFields Tables.foundFields Tables.foundAt Tables.deltaFields Tables.loopDeltasFields Tables.loopFilterFields Tables.quantizerFields Tables.probFields Tables.probsFields Tables.featureFields Tables.mapFields Tables.dataFields Tables.featuresFields Tables.segmentationFields Tables.runFields Tables.first Tables.least Tables.most Tables.tilesFields Header.sizeOf Header.frameFields Header.headerFields Settings.deltaValue Settings.loopFilterOf Settings.quantizerOf Settings.lossless Settings.segmentationOf Record.frameOf Record.headerOf Record.stateFrom Record.stateAfter Reading.readSampling Reading.readColor Reading.readSize Reading.readRender Reading.readRef Reading.readRefs Reading.readFound Reading.readDelta Reading.readLoopFilter Reading.readQuantizer Reading.readSegmentation Reading.readRun Reading.readTiles Reading.readSync Reading.readFrame Reading.readHeader Slots.each Answer.parsed
+    Reader.must Reader.groupIf Reader.fieldIf Tables.colorFields Tables.sizeFields Tables.renderFields Tables.refFields Tables.refsFields Tables.foundFields Tables.foundAt Tables.deltaFields Tables.loopFilterFields Tables.quantizerFields Tables.probFields Tables.probsFields Tables.featureFields Tables.featuresFields Tables.segmentationFields Tables.runFields Tables.first Tables.least Tables.most Tables.tilesFields Header.sizeOf Header.frameFields Header.headerFields Settings.deltaValue Settings.loopFilterOf Settings.quantizerOf Settings.lossless Settings.segmentationOf Record.frameOf Record.headerOf Record.stateFrom Record.stateAfter Reading.readColor Reading.readSize Reading.readRender Reading.readRef Reading.readRefs Reading.readFound Reading.readDelta Reading.readLoopFilter Reading.readQuantizer Reading.readSegmentation Reading.readRun Reading.readTiles Reading.readSync Reading.readFrame Reading.readHeader Slots.each Answer.parsed
     Little.little Layout.announced Layout.cut Layout.indexed Layout.layoutOf Layout.start
     Split.filled Split.first Split.firstPast Split.placed Split.splitOf Frames.stateBefore Frames.frameRead
     Frames.firstFault Chunk.chunkOf Features.featuresOf Features.featuresIn Levels.levelsOf Levels.levelsAt

@@ -10,8 +10,8 @@ use Rattle.enums.specs.declared.BitDepth.{BitDepth}
 use Rattle.enums.specs.declared.ColorSpace.{ColorSpace}
 use Rattle.sampling.specs.declared.Sampling.{Sampling}
 use Rattle.color.specs.declared.ColorRead.{ColorRead}
-use Rattle.sampling.specs.Sampling.{samplingOf}
-use Rattle.grammar.specs.Tables.{SamplingValues}
+use Rattle.color.proofs.Parts.{flatColor}
+use Rattle.sampling.specs.Sampling.{samplingOf, SamplingValues}
 use Rattle.color.specs.Color.{colorOf, viewColor}
 use Rattle.grammar.specs.Record.{depthOf}
 use Rattle.grammar.specs.Reading.{readColor}
@@ -19,7 +19,7 @@ use Rattle.color.specs.Intra.{fixedColor, readIntraColor, intraColorOf}
 
 pub color-read : (profile d n p : ℕ) (v : SamplingValues) (depth : BitDepth) (space : ColorSpace) (a : Sampling) → depth ≡ depthOf profile d → space ≡ colorSpaceOf n → a ≡ samplingOf profile n v
     → got (record { «bit_depth» = depth; «color_space» = space; «color_range» = a .«color_range»; «subsampling_x» = a .«subsampling_x»; «subsampling_y» = a .«subsampling_y» }) p
-    ≡ got (colorOf profile (record { ten-or-twelve-bit = d; color-space = n; sampling = v })) p
+    ≡ got (colorOf profile (flatColor d n v)) p
 unfolding colorOf samplingOf
 color-read profile d n p v depth space a ed es ea = rw (ed, es, ea)
 

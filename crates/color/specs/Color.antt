@@ -15,9 +15,9 @@ colorOf profile v =
     record {
       «bit_depth» = depthOf profile (v .ten-or-twelve-bit);
       «color_space» = colorSpaceOf (v .color-space);
-      «color_range» = rangeOf (v .color-space) (v .sampling .color-range);
-      «subsampling_x» = subsampling profile (v .color-space) (v .sampling .subsampling-x);
-      «subsampling_y» = subsampling profile (v .color-space) (v .sampling .subsampling-y);
+      «color_range» = rangeOf (v .color-space) (v .color-range);
+      «subsampling_x» = subsampling profile (v .color-space) (v .subsampling-x);
+      «subsampling_y» = subsampling profile (v .color-space) (v .subsampling-y);
     }
 
 -- the code's answer

@@ -16,13 +16,12 @@ use Rattle.bits.specs.Read.{readBits}
 use Rattle.bits.specs.Reader.{got}
 use Rattle.bits.proofs.Steps.{value-lt}
 use Rattle.settings.specs.declared.loop_filter.LoopFilterParams.{LoopFilterParams}
-use Rattle.loop_deltas.specs.LoopDeltas.{withFlags, loopDeltasOf, withDeltas, movedRefs, movedModes, moved, refDeltasOf, modeDeltasOf}
-use Rattle.grammar.specs.Tables.{LoopDeltasValues}
-use Rattle.grammar.specs.Reading.{noLoopDeltas}
+use Rattle.loop_deltas.specs.LoopDeltas.{withFlags, loopDeltasOf, withDeltas, movedRefs, movedModes, moved, refDeltasOf, modeDeltasOf, LoopDeltasValues, noLoopDeltas}
 use Rattle.grammar.specs.Settings.{loopFilterOf, deltaValue}
 use mathlib.Core.Bool.{Bool, true, false}
 use Rattle.bits.specs.Syntax.{flag}
 use Rattle.coded.specs.Delta.{deltaOf}
+use Rattle.filter.proofs.Parts.{flatFilter}
 
 -- a value of at most 8 bits
 pub byte-fits : (s : List ℕ) (p n : ℕ) (r : Bits) (m : ℕ) (c : Cursor) → r ≡ readBits s p n → r ≡ Value m c → T (leb n 8) → Fits w8 m
@@ -31,15 +30,15 @@ byte-fits s p n r m c e t l = record { fits = omega (arith, value-lt s p n r m c
 -- the settings with the deltas enabled and disabled
 module _ (old : LoopFilterParams) (l h e p : ℕ) where
   pub filter-moved : (d : LoopDeltasValues) → e ≡ 1
-      → got (loopDeltasOf (withFlags old l h (eqb e 1) (old .«delta_update»)) d) p ≡ got (loopFilterOf false old (record { level = l; sharpness = h; delta-enabled = e; deltas = d })) p
+      → got (loopDeltasOf (withFlags old l h (eqb e 1) (old .«delta_update»)) d) p ≡ got (loopFilterOf false old (flatFilter l h e d)) p
   unfolding loopFilterOf loopDeltasOf withDeltas movedRefs movedModes moved refDeltasOf modeDeltasOf deltaOf deltaValue
   filter-moved d ee = go (flag (d .delta-update)) refl
     where
       go : (b : Bool) → flag (d .delta-update) ≡ b
-          → got (loopDeltasOf (withFlags old l h (eqb e 1) (old .«delta_update»)) d) p ≡ got (loopFilterOf false old (record { level = l; sharpness = h; delta-enabled = e; deltas = d })) p
+          → got (loopDeltasOf (withFlags old l h (eqb e 1) (old .«delta_update»)) d) p ≡ got (loopFilterOf false old (flatFilter l h e d)) p
       go true u = rw (eq-eqb e 1 ee, u)
       go false u = rw (eq-eqb e 1 ee, u)
 
-  pub filter-plain : (e ≡ 1 → ⊥) → got (withFlags old l h (eqb e 1) (old .«delta_update»)) p ≡ got (loopFilterOf false old (record { level = l; sharpness = h; delta-enabled = e; deltas = noLoopDeltas })) p
+  pub filter-plain : (e ≡ 1 → ⊥) → got (withFlags old l h (eqb e 1) (old .«delta_update»)) p ≡ got (loopFilterOf false old (flatFilter l h e noLoopDeltas)) p
   unfolding loopFilterOf
   filter-plain ne = rw (ne-eqb e 1 ne)

@@ -2,19 +2,19 @@
 -- Assumes nothing.
 use Prim.Native.Nat.{ℕ, _+_, _*_, _≤_}
 use mathlib.Core.Path.{_≡_, refl}
-use mathlib.Core.Bool.{Bool, true, not, _&&_, _||_}
+use mathlib.Core.Bool.{true, not, _&&_, _||_}
 use mathlib.Core.List.{List, [], _∷_}
 use native.Mathlib.Omega.{arith}
 use lib.Dec.{eqb, ltb}
 use Rattle.bits.specs.Refusal.{the, syncCode}
-use Rattle.bits.specs.Syntax.{fixed, flag, pick, optional, size}
+use Rattle.bits.specs.Syntax.{fixed, flag, size}
 use Rattle.bits.specs.Many.{manyFields}
 use Rattle.bits.specs.Reader.{groupIf}
 use Rattle.bits.specs.Law.{Any, Reads}
 use Rattle.bits.proofs.Fields.{size-append, size-if, size-optional, zeros}
 use Rattle.bits.proofs.Laws.{take, take-if, take-by, demand, then, then-as, next-by, next-if, group-if, last, respelt, done}
 use Rattle.settings.specs.declared.size.FrameSize.{FrameSize}
-use Rattle.grammar.specs.Tables.{samplingFields, colorFields, sizeFields, renderFields, refFields, refsFields, foundFields, foundAt, deltaFields, loopDeltasFields, loopFilterFields, quantizerFields, probFields, probsFields, featureFields, mapFields, dataFields, featuresFields, segmentationFields, runFields, tilesFields, first, least, most}
+use Rattle.grammar.specs.Tables.{colorFields, sizeFields, renderFields, refFields, refsFields, foundFields, foundAt, deltaFields, loopFilterFields, quantizerFields, probFields, probsFields, featureFields, featuresFields, segmentationFields, runFields, tilesFields, first, least, most}
 use Rattle.grammar.specs.Header.{FrameValues, isKey, isIntra, isColored, sizeOf, sizeFrom, frameSize, frameFields, HeaderValues, profileNumber, showsExisting, headerFields}
 use Rattle.grammar.specs.Reading.{noColor, noRefs, noFound, noSizeValues, readSync, noFrame, readFrame, readHeader}
 use Rattle.grammar.proofs.Laws.{color-reads, color-nil, color-size, size-reads, size-nil, size-size, render-reads, render-size, refs-reads, refs-nil, refs-size, found-reads, found-nil, found-size, loop-filter-reads, loop-filter-size, quantizer-reads, quantizer-size, segmentation-reads, segmentation-size, tiles-reads, tiles-size}
@@ -53,7 +53,7 @@ frame-reads slots profile =
     done _ (((((((((((((((((((((((tt, refl), refl), refl), refl), refl), refl), refl), refl), refl), refl), refl), refl), refl), refl), refl), refl), refl), refl), refl), refl), refl), refl), refl) (λ v k. rw (← (k .1), ← (k .0 .1), ← (k .0 .0 .1), ← (k .0 .0 .0 .1), ← (k .0 .0 .0 .0 .1), ← (k .0 .0 .0 .0 .0 .1), ← (k .0 .0 .0 .0 .0 .0 .1), ← (k .0 .0 .0 .0 .0 .0 .0 .1), ← (k .0 .0 .0 .0 .0 .0 .0 .0 .1), ← (k .0 .0 .0 .0 .0 .0 .0 .0 .0 .1), ← (k .0 .0 .0 .0 .0 .0 .0 .0 .0 .0 .1), ← (k .0 .0 .0 .0 .0 .0 .0 .0 .0 .0 .0 .1), ← (k .0 .0 .0 .0 .0 .0 .0 .0 .0 .0 .0 .0 .1), ← (k .0 .0 .0 .0 .0 .0 .0 .0 .0 .0 .0 .0 .0 .1), ← (k .0 .0 .0 .0 .0 .0 .0 .0 .0 .0 .0 .0 .0 .0 .1), ← (k .0 .0 .0 .0 .0 .0 .0 .0 .0 .0 .0 .0 .0 .0 .0 .1), ← (k .0 .0 .0 .0 .0 .0 .0 .0 .0 .0 .0 .0 .0 .0 .0 .0 .1), ← (k .0 .0 .0 .0 .0 .0 .0 .0 .0 .0 .0 .0 .0 .0 .0 .0 .0 .1), ← (k .0 .0 .0 .0 .0 .0 .0 .0 .0 .0 .0 .0 .0 .0 .0 .0 .0 .0 .1), ← (k .0 .0 .0 .0 .0 .0 .0 .0 .0 .0 .0 .0 .0 .0 .0 .0 .0 .0 .0 .1), ← (k .0 .0 .0 .0 .0 .0 .0 .0 .0 .0 .0 .0 .0 .0 .0 .0 .0 .0 .0 .0 .1), ← (k .0 .0 .0 .0 .0 .0 .0 .0 .0 .0 .0 .0 .0 .0 .0 .0 .0 .0 .0 .0 .0 .1), ← (k .0 .0 .0 .0 .0 .0 .0 .0 .0 .0 .0 .0 .0 .0 .0 .0 .0 .0 .0 .0 .0 .0 .1))))
 
 frame-nil : (slots : List FrameSize) (profile : ℕ) → zeros (frameFields slots profile noFrame) ≡ true
-unfolding frameFields colorFields samplingFields refsFields refFields foundFields foundAt sizeFields sizeOf renderFields loopFilterFields loopDeltasFields deltaFields quantizerFields segmentationFields mapFields probsFields probFields dataFields featuresFields featureFields manyFields tilesFields runFields first least most
+unfolding frameFields colorFields refsFields refFields foundFields foundAt sizeFields sizeOf renderFields loopFilterFields deltaFields quantizerFields segmentationFields probsFields probFields featuresFields featureFields manyFields tilesFields runFields first least most
 frame-nil slots profile = refl
 
 pub header-reads : (slots : List FrameSize) → Reads Any (headerFields slots) (readHeader slots)

@@ -3,52 +3,44 @@
 use Prim.Native.Nat.{ℕ, zero, suc, _+_, _*_, _≤_, _<_, pred}
 use Prim.Native.String.{String}
 use mathlib.Core.Path.{_≡_, refl, sym}
-use mathlib.Core.Bool.{Bool, true, false, not, _&&_}
+use mathlib.Core.Bool.{true, false, not, _&&_}
 use mathlib.Core.List.{[], _∷_}
 use native.Mathlib.Omega.{arith}
 use lib.Dec.{eqb}
 use borrow.Author.Tests.{eqb-true, eqb-false}
 use Rattle.bits.specs.Refusal.{Name, the, item}
-use Rattle.bits.specs.Syntax.{fld, flag, pick, bare, optional, size, Ranged}
+use Rattle.bits.specs.Syntax.{fld, flag, pick, size, Ranged}
 use Rattle.bits.specs.Many.{Times, manyFields}
 use Rattle.bits.specs.Law.{Any, Reads}
 use Rattle.bits.proofs.Fields.{size-append, size-if, size-optional, zeros}
-use Rattle.bits.proofs.Laws.{field-reads, group-if, take, take-in, take-if, take-by, branch-in, demand, then, next-if, last, ends, respelt, done}
+use Rattle.bits.proofs.Laws.{field-reads, group-if, take, take-in, take-if, take-by, branch-in, then, next-if, last, ends, respelt, done}
 use Rattle.bits.proofs.Many.{many-reads, many-size}
-use Rattle.grammar.specs.Tables.{SamplingValues, samplingFields, ColorValues, colorFields, deep, sampled, srgb, SizeValues, sizeFields, RenderValues, renderFields, RefValues, RefsValues, refFields, refsFields, FoundValues, foundFields, DeltaValues, deltaFields, LoopDeltasValues, loopDeltasFields, refDelta, modeDelta, LoopFilterValues, loopFilterFields, QuantizerValues, quantizerFields, deltaQ, ProbValues, probFields, probsFields, FeatureValues, featureFields, featureBits, featureSigned, feature, MapValues, mapFields, DataValues, dataFields, featuresFields, SegmentationValues, segmentationFields, runFields, TilesValues, tilesFields, superblocks, span}
-use Rattle.grammar.specs.Reading.{readSampling, readColor, noColor, readSize, noSizeValues, readRender, readRef, readRefs, noRefs, readFound, noFound, readDelta, readRefDeltas, readModeDeltas, noRefDeltas, noModeDeltas, readLoopDeltas, noLoopDeltas, readLoopFilter, readDeltaQ, readQuantizer, readProb, readProbs, noProbs, readFeature, readFeatures, noFeatures, readMap, noMap, readData, noData, readSegmentation, readRun, readTiles, readSync}
+use Rattle.grammar.specs.Tables.{ColorValues, colorFields, deep, sampled, srgb, SizeValues, sizeFields, RenderValues, renderFields, RefValues, RefsValues, refFields, refsFields, FoundValues, foundFields, DeltaValues, deltaFields, refDelta, modeDelta, LoopFilterValues, loopFilterFields, QuantizerValues, quantizerFields, deltaQ, ProbValues, probFields, probsFields, FeatureValues, featureFields, featureBits, featureSigned, feature, featuresFields, SegmentationValues, segmentationFields, runFields, TilesValues, tilesFields, superblocks, span}
+use Rattle.grammar.specs.Reading.{readColor, noColor, readSize, noSizeValues, readRender, readRef, readRefs, noRefs, readFound, noFound, readDelta, readRefDeltas, readModeDeltas, noRefDeltas, noModeDeltas, readLoopFilter, readDeltaQ, readQuantizer, readProb, readProbs, noProbs, readFeature, readFeatures, noFeatures, readSegmentation, readRun, readTiles}
 use Rattle.grammar.proofs.Limits.{most-le}
 
 -- color_config()
-pub sampling-reads : (profile space : ℕ) → Reads Any (samplingFields profile space) (readSampling profile space)
-unfolding samplingFields readSampling
-sampling-reads profile space =
-    take-by (not (srgb space)) _ _ (λ (v : SamplingValues). v .color-range) λ r.
-    take-by (not (srgb space) && sampled profile) _ _ (λ (v : SamplingValues). v .subsampling-x) λ x.
-    take-by (not (srgb space) && sampled profile) _ _ (λ (v : SamplingValues). v .subsampling-y) λ y.
-    take-by (sampled profile) _ _ (λ (v : SamplingValues). v .reserved-zero) λ z.
-    done _ (search) (λ b k. rw (← (k .1), ← (k .0 .1), ← (k .0 .0 .1), ← (k .0 .0 .0 .1)))
-
 pub color-reads : (profile : ℕ) → Reads Any (colorFields profile) (readColor profile)
 unfolding colorFields readColor
 color-reads profile =
     take-by (deep profile) _ _ (λ (v : ColorValues). v .ten-or-twelve-bit) λ d.
-    take (λ (v : ColorValues). v .color-space) λ n.
+    take (λ (v : ColorValues). v .color-space) λ c.
     respelt (λ v k. rw (k .1))
-    (last (λ (v : ColorValues). v .sampling) (sampling-reads profile n) (λ a. search) (λ a. refl) (λ v k. rw (← (k .1), ← (k .0 .1))))
+    (take-by (not (srgb c)) _ _ (λ (v : ColorValues). v .color-range) λ r.
+    take-by (not (srgb c) && sampled profile) _ _ (λ (v : ColorValues). v .subsampling-x) λ x.
+    take-by (not (srgb c) && sampled profile) _ _ (λ (v : ColorValues). v .subsampling-y) λ y.
+    take-by (sampled profile) _ _ (λ (v : ColorValues). v .reserved-zero) λ z.
+    done _ (search) (λ b k. rw (← (k .1), ← (k .0 .1), ← (k .0 .0 .1), ← (k .0 .0 .0 .1), ← (k .0 .0 .0 .0 .1), ← (k .0 .0 .0 .0 .0 .1))))
 
 pub color-nil : (profile : ℕ) → zeros (colorFields profile noColor) ≡ true
-unfolding colorFields samplingFields
+unfolding colorFields
 color-nil profile = refl
-
-sampling-size : (profile space : ℕ) (v : SamplingValues) → size (samplingFields profile space v) ≤ 4
-unfolding samplingFields
-sampling-size profile space v =
-    omega (arith, size-if (not (srgb space)) 1, size-if (not (srgb space) && sampled profile) 1, size-if (sampled profile) 1)
 
 pub color-size : (profile : ℕ) (v : ColorValues) → size (colorFields profile v) ≤ 8
 unfolding colorFields
-color-size profile v = omega (arith, size-if (deep profile) 1, sampling-size profile (v .color-space) (v .sampling))
+color-size profile v =
+    let yuv = not (srgb (v .color-space)) in
+    omega (arith, size-if (deep profile) 1, size-if yuv 1, size-if (yuv && sampled profile) 1, size-if (sampled profile) 1)
 
 -- frame_size() and render_size()
 pub size-reads : (x y : Name) → Reads Any (sizeFields x y) (readSize x y)
@@ -138,38 +130,25 @@ modes-deltas-nil : zeros (manyFields modeDelta 0 2 noModeDeltas) ≡ true
 unfolding manyFields deltaFields
 modes-deltas-nil = refl
 
-loop-deltas-reads : Reads Any loopDeltasFields readLoopDeltas
-unfolding loopDeltasFields readLoopDeltas readRefDeltas readModeDeltas
-loop-deltas-reads =
-    take (λ (v : LoopDeltasValues). v .delta-update) λ u.
-    next-if (flag u) (λ (v : LoopDeltasValues). flag (v .delta-update)) (λ v k. rw (k .1)) noRefDeltas refs-deltas-nil (λ (v : LoopDeltasValues). v .ref-deltas) (many-reads 0 4 (λ i. delta-reads _ _ _ 6)) λ r.
-    ends (next-if (flag u) (λ (v : LoopDeltasValues). flag (v .delta-update)) (λ v k. rw (k .0 .1)) noModeDeltas modes-deltas-nil (λ (v : LoopDeltasValues). v .mode-deltas) (many-reads 0 2 (λ i. delta-reads _ _ _ 6)) λ m.
-    done _ (search) (λ b k. rw (← (k .1), ← (k .0 .1), ← (k .0 .0 .1))))
-
-loop-deltas-nil : zeros (loopDeltasFields noLoopDeltas) ≡ true
-unfolding loopDeltasFields manyFields deltaFields
-loop-deltas-nil = refl
-
-loop-deltas-size : (v : LoopDeltasValues) → size (loopDeltasFields v) ≤ 49
-unfolding loopDeltasFields
-loop-deltas-size v =
-    let b = flag (v .delta-update) in
-    let refs = many-size refDelta 8 (λ i a. delta-size _ _ _ 6 a) 0 4 (v .ref-deltas) in
-    let modes = many-size modeDelta 8 (λ i a. delta-size _ _ _ 6 a) 0 2 (v .mode-deltas) in
-    rw size-append (omega (arith, size-optional b (manyFields refDelta 0 4 (v .ref-deltas)) 32 refs, size-optional b (manyFields modeDelta 0 2 (v .mode-deltas)) 16 modes))
-
 pub loop-filter-reads : Reads Any loopFilterFields readLoopFilter
-unfolding loopFilterFields readLoopFilter
+unfolding loopFilterFields readLoopFilter readRefDeltas readModeDeltas
 loop-filter-reads =
     take (λ (v : LoopFilterValues). v .level) λ l.
     take (λ (v : LoopFilterValues). v .sharpness) λ h.
     take (λ (v : LoopFilterValues). v .delta-enabled) λ e.
-    ends (next-if (flag e) (λ (v : LoopFilterValues). flag (v .delta-enabled)) (λ v k. rw (k .1)) noLoopDeltas loop-deltas-nil (λ (v : LoopFilterValues). v .deltas) loop-deltas-reads λ d.
-    done _ (search) (λ b k. rw (← (k .1), ← (k .0 .1), ← (k .0 .0 .1), ← (k .0 .0 .0 .1))))
+    take-if (flag e) (λ (v : LoopFilterValues). flag (v .delta-enabled)) (λ v k. rw (k .1)) (the "loop_filter_delta_update") 1 (λ (v : LoopFilterValues). v .delta-update) λ u.
+    next-if (flag u) (λ (v : LoopFilterValues). flag (v .delta-update)) (λ v k. rw (k .1)) noRefDeltas refs-deltas-nil (λ (v : LoopFilterValues). v .ref-deltas) (many-reads 0 4 (λ i. delta-reads _ _ _ 6)) λ r.
+    ends (next-if (flag u) (λ (v : LoopFilterValues). flag (v .delta-update)) (λ v k. rw (k .0 .1)) noModeDeltas modes-deltas-nil (λ (v : LoopFilterValues). v .mode-deltas) (many-reads 0 2 (λ i. delta-reads _ _ _ 6)) λ m.
+    done _ (search) (λ b k. rw (← (k .1), ← (k .0 .1), ← (k .0 .0 .1), ← (k .0 .0 .0 .1), ← (k .0 .0 .0 .0 .1), ← (k .0 .0 .0 .0 .0 .1))))
 
 pub loop-filter-size : (v : LoopFilterValues) → size (loopFilterFields v) ≤ 59
 unfolding loopFilterFields
-loop-filter-size v = omega (arith, size-optional (flag (v .delta-enabled)) (loopDeltasFields (v .deltas)) 49 (loop-deltas-size (v .deltas)))
+loop-filter-size v =
+    let b = flag (v .delta-update) in
+    let refs = many-size refDelta 8 (λ i a. delta-size _ _ _ 6 a) 0 4 (v .ref-deltas) in
+    let modes = many-size modeDelta 8 (λ i a. delta-size _ _ _ 6 a) 0 2 (v .mode-deltas) in
+    rw size-append
+    (omega (arith, size-if (flag (v .delta-enabled)) 1, size-optional b (manyFields refDelta 0 4 (v .ref-deltas)) 32 refs, size-optional b (manyFields modeDelta 0 2 (v .mode-deltas)) 16 modes))
 
 -- quantization_params()
 delta-q-reads : (i : ℕ) → Reads Any (deltaQ i) (readDeltaQ i)
@@ -220,26 +199,6 @@ probs-size : (x y : String) (n : ℕ) (v : Times n ProbValues) → size (probsFi
 unfolding probsFields
 probs-size x y n v = many-size (λ i. probFields (item x i) (item y i)) 9 (λ i. prob-size (item x i) (item y i)) 0 n v
 
-map-reads : Reads Any mapFields readMap
-unfolding mapFields readMap
-map-reads =
-    take (λ (v : MapValues). v .update-map) λ m.
-    next-if (flag m) (λ (v : MapValues). flag (v .update-map)) (λ v k. rw (k .1)) (noProbs 7) (tree-nil _ _) (λ (v : MapValues). v .tree-probs) (probs-reads "tree_prob_coded" "segmentation_tree_probs" 7) λ t.
-    take-if (flag m) (λ (v : MapValues). flag (v .update-map)) (λ v k. rw (k .0 .1)) (the "segmentation_temporal_update") 1 (λ (v : MapValues). v .temporal-update) λ u.
-    ends (next-if (flag u) (λ (v : MapValues). flag (v .temporal-update)) (λ v k. rw (k .1)) (noProbs 3) (pred-nil _ _) (λ (v : MapValues). v .pred-probs) (probs-reads "pred_prob_coded" "segmentation_pred_prob" 3) λ p.
-    done _ (search) (λ b k. rw (← (k .1), ← (k .0 .1), ← (k .0 .0 .1), ← (k .0 .0 .0 .1))))
-
-map-nil : zeros (mapFields noMap) ≡ true
-unfolding mapFields probsFields manyFields probFields
-map-nil = refl
-
-map-size : (v : MapValues) → size (mapFields v) ≤ 92
-unfolding mapFields
-map-size v =
-    let tree = probs-size "tree_prob_coded" "segmentation_tree_probs" 7 (v .tree-probs) in
-    let pred = probs-size "pred_prob_coded" "segmentation_pred_prob" 3 (v .pred-probs) in
-    simp size-append (omega (arith, size-optional (flag (v .update-map)) (probsFields _ _ 7 (v .tree-probs)) 63 tree, size-if (flag (v .update-map)) 1, size-optional (flag (v .temporal-update)) (probsFields _ _ 3 (v .pred-probs)) 27 pred))
-
 pub feature-reads : (i j : ℕ) → Reads Any (featureFields i j) (readFeature i j)
 unfolding featureFields readFeature
 feature-reads i j =
@@ -274,37 +233,34 @@ features-size : (v : Times 8 (Times 4 FeatureValues)) → size (featuresFields v
 unfolding featuresFields
 features-size v = many-size (λ i. manyFields (featureFields i) 0 4) 40 (λ i. many-size (featureFields i) 10 (feature-size i) 0 4) 0 8 v
 
-data-reads : Reads Any dataFields readData
-unfolding dataFields readData
-data-reads =
-    take (λ (v : DataValues). v .update-data) λ d.
-    take-if (flag d) (λ (v : DataValues). flag (v .update-data)) (λ v k. rw (k .1)) (the "segmentation_abs_or_delta_update") 1 (λ (v : DataValues). v .abs-or-delta-update) λ a.
-    ends (next-if (flag d) (λ (v : DataValues). flag (v .update-data)) (λ v k. rw (k .0 .1)) noFeatures features-nil (λ (v : DataValues). v .features) features-reads λ f.
-    done _ (search) (λ b k. rw (← (k .1), ← (k .0 .1), ← (k .0 .0 .1))))
-
-data-nil : zeros (dataFields noData) ≡ true
-unfolding dataFields featuresFields manyFields featureFields
-data-nil = refl
-
-data-size : (v : DataValues) → size (dataFields v) ≤ 322
-unfolding dataFields
-data-size v =
-    let on = flag (v .update-data) in
-    omega (arith, size-if on 1, size-optional on (featuresFields (v .features)) 320 (features-size (v .features)))
-
 pub segmentation-reads : Reads Any segmentationFields readSegmentation
 unfolding segmentationFields readSegmentation
 segmentation-reads =
     take (λ (v : SegmentationValues). v .enabled) λ e.
-    next-if (flag e) (λ (v : SegmentationValues). flag (v .enabled)) (λ v k. rw (k .1)) noMap map-nil (λ (v : SegmentationValues). v .map-part) map-reads λ m.
-    ends (next-if (flag e) (λ (v : SegmentationValues). flag (v .enabled)) (λ v k. rw (k .0 .1)) noData data-nil (λ (v : SegmentationValues). v .data-part) data-reads λ d.
-    done _ (search) (λ b k. rw (← (k .1), ← (k .0 .1), ← (k .0 .0 .1))))
+    take-if (flag e) (λ (v : SegmentationValues). flag (v .enabled)) (λ v k. rw (k .1)) (the "segmentation_update_map") 1 (λ (v : SegmentationValues). v .update-map) λ m.
+    next-if (flag m) (λ (v : SegmentationValues). flag (v .update-map)) (λ v k. rw (k .1)) (noProbs 7) (tree-nil _ _) (λ (v : SegmentationValues). v .tree-probs) (probs-reads "tree_prob_coded" "segmentation_tree_probs" 7) λ t.
+    take-if (flag m) (λ (v : SegmentationValues). flag (v .update-map)) (λ v k. rw (k .0 .1)) (the "segmentation_temporal_update") 1 (λ (v : SegmentationValues). v .temporal-update) λ u.
+    next-if (flag u) (λ (v : SegmentationValues). flag (v .temporal-update)) (λ v k. rw (k .1)) (noProbs 3) (pred-nil _ _) (λ (v : SegmentationValues). v .pred-probs) (probs-reads "pred_prob_coded" "segmentation_pred_prob" 3) λ p.
+    take-if (flag e) (λ (v : SegmentationValues). flag (v .enabled)) (λ v k. rw (k .0 .0 .0 .0 .1)) (the "segmentation_update_data") 1 (λ (v : SegmentationValues). v .update-data) λ d.
+    take-if (flag d) (λ (v : SegmentationValues). flag (v .update-data)) (λ v k. rw (k .1)) (the "segmentation_abs_or_delta_update") 1 (λ (v : SegmentationValues). v .abs-or-delta-update) λ a.
+    ends (next-if (flag d) (λ (v : SegmentationValues). flag (v .update-data)) (λ v k. rw (k .0 .1)) noFeatures features-nil (λ (v : SegmentationValues). v .features) features-reads λ f.
+    done _ (search) (λ b k. rw (← (k .1), ← (k .0 .1), ← (k .0 .0 .1), ← (k .0 .0 .0 .1), ← (k .0 .0 .0 .0 .1), ← (k .0 .0 .0 .0 .0 .1), ← (k .0 .0 .0 .0 .0 .0 .1), ← (k .0 .0 .0 .0 .0 .0 .0 .1))))
 
 pub segmentation-size : (v : SegmentationValues) → size (segmentationFields v) ≤ 415
 unfolding segmentationFields
 segmentation-size v =
-    let on = flag (v .enabled) in
-    rw size-append (omega (arith, size-optional on (mapFields (v .map-part)) 92 (map-size (v .map-part)), size-optional on (dataFields (v .data-part)) 322 (data-size (v .data-part))))
+    let tree = probs-size "tree_prob_coded" "segmentation_tree_probs" 7 (v .tree-probs) in
+    let pred = probs-size "pred_prob_coded" "segmentation_pred_prob" 3 (v .pred-probs) in
+    simp size-append
+    (omega (
+      arith,
+      size-if (flag (v .enabled)) 1,
+      size-optional (flag (v .update-map)) (probsFields _ _ 7 (v .tree-probs)) 63 tree,
+      size-if (flag (v .update-map)) 1,
+      size-optional (flag (v .temporal-update)) (probsFields _ _ 3 (v .pred-probs)) 27 pred,
+      size-if (flag (v .update-data)) 1,
+      size-optional (flag (v .update-data)) (featuresFields (v .features)) 320 (features-size (v .features)),
+    ))
 
 -- a run of bits
 module _ (x : String) where

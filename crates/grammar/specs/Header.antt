@@ -3,12 +3,12 @@
 -- Assumes nothing.
 use Prim.Native.Nat.{ℕ, _+_, _*_}
 use mathlib.Core.Bool.{Bool, not, _&&_, _||_}
-use mathlib.Core.List.{List, [], _∷_, _++_}
+use mathlib.Core.List.{List, [], _∷_}
 use lib.Dec.{eqb, ltb}
 use lib.ListN.{getD}
 use Rattle.bits.specs.Bit.{Begins}
 use Rattle.bits.specs.Refusal.{the, frameMarker, syncCode}
-use Rattle.bits.specs.Syntax.{Field, fld, fixed, flag, _then_, pick, fldIf, optional, flat, Ranged}
+use Rattle.bits.specs.Syntax.{Field, fld, fixed, flag, pick, fldIf, optional, flat, Ranged, _then_}
 use Rattle.settings.specs.FrameSize.{noSize}
 use Rattle.settings.specs.declared.size.FrameSize.{FrameSize}
 use Rattle.grammar.specs.Tables.{ColorValues, colorFields, SizeValues, sizeFields, RenderValues, renderFields, RefsValues, refsFields, FoundValues, foundFields, foundAt, LoopFilterValues, loopFilterFields, QuantizerValues, quantizerFields, SegmentationValues, segmentationFields, TilesValues, tilesFields}

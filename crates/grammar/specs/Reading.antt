@@ -3,7 +3,7 @@
 -- Assumes nothing.
 use Prim.Native.Nat.{ℕ, zero, suc, _+_, _*_}
 use Prim.Native.String.{String}
-use mathlib.Core.Bool.{Bool, not, _&&_, _||_}
+use mathlib.Core.Bool.{not, _&&_, _||_}
 use mathlib.Core.List.{List}
 use lib.Dec.{eqb, ltb}
 use Rattle.bits.specs.Refusal.{Name, the, item, frameMarker, syncCode}
@@ -11,30 +11,22 @@ use Rattle.bits.specs.Syntax.{flag, pick}
 use Rattle.bits.specs.Reader.{Reader, give, _>>=_, field, must, groupIf, fieldIf}
 use Rattle.bits.specs.Many.{Times, times, many}
 use Rattle.settings.specs.declared.size.FrameSize.{FrameSize}
-use Rattle.grammar.specs.Tables.{SamplingValues, ColorValues, deep, sampled, srgb, SizeValues, RenderValues, RefValues, RefsValues, FoundValues, foundAt, DeltaValues, LoopDeltasValues, LoopFilterValues, QuantizerValues, ProbValues, FeatureValues, featureBits, featureSigned, feature, MapValues, DataValues, SegmentationValues, TilesValues, span}
+use Rattle.grammar.specs.Tables.{ColorValues, deep, sampled, srgb, SizeValues, RenderValues, RefValues, RefsValues, FoundValues, foundAt, DeltaValues, LoopFilterValues, QuantizerValues, ProbValues, FeatureValues, featureBits, featureSigned, feature, SegmentationValues, TilesValues, span}
 use Rattle.grammar.specs.Header.{FrameValues, HeaderValues, sizeFrom}
 
 -- color_config()
-abbrev pub noSampling : SamplingValues
-noSampling = record { color-range = 0; subsampling-x = 0; subsampling-y = 0; reserved-zero = 0 }
-
 abbrev pub noColor : ColorValues
-noColor = record { ten-or-twelve-bit = 0; color-space = 0; sampling = noSampling }
-
-unfoldable pub readSampling : ℕ → ℕ → Reader SamplingValues
-readSampling profile space = do
-  r ← fieldIf (not (srgb space)) (the "color_range") 1
-  x ← fieldIf (not (srgb space) && sampled profile) (the "subsampling_x") 1
-  y ← fieldIf (not (srgb space) && sampled profile) (the "subsampling_y") 1
-  z ← fieldIf (sampled profile) (the "reserved_zero") 1
-  give (record { color-range = r; subsampling-x = x; subsampling-y = y; reserved-zero = z })
+noColor = record { ten-or-twelve-bit = 0; color-space = 0; color-range = 0; subsampling-x = 0; subsampling-y = 0; reserved-zero = 0 }
 
 unfoldable pub readColor : ℕ → Reader ColorValues
 readColor profile = do
   d ← fieldIf (deep profile) (the "ten_or_twelve_bit") 1
   c ← field (the "color_space") 3
-  m ← readSampling profile c
-  give (record { ten-or-twelve-bit = d; color-space = c; sampling = m })
+  r ← fieldIf (not (srgb c)) (the "color_range") 1
+  x ← fieldIf (not (srgb c) && sampled profile) (the "subsampling_x") 1
+  y ← fieldIf (not (srgb c) && sampled profile) (the "subsampling_y") 1
+  z ← fieldIf (sampled profile) (the "reserved_zero") 1
+  give (record { ten-or-twelve-bit = d; color-space = c; color-range = r; subsampling-x = x; subsampling-y = y; reserved-zero = z })
 
 -- frame_size() and render_size()
 abbrev pub noSizeValues : SizeValues
@@ -98,11 +90,8 @@ noRefDeltas = times 4 noDelta
 abbrev pub noModeDeltas : Times 2 DeltaValues
 noModeDeltas = times 2 noDelta
 
-abbrev pub noLoopDeltas : LoopDeltasValues
-noLoopDeltas = record { delta-update = 0; ref-deltas = noRefDeltas; mode-deltas = noModeDeltas }
-
 abbrev pub noLoopFilter : LoopFilterValues
-noLoopFilter = record { level = 0; sharpness = 0; delta-enabled = 0; deltas = noLoopDeltas }
+noLoopFilter = record { level = 0; sharpness = 0; delta-enabled = 0; delta-update = 0; ref-deltas = noRefDeltas; mode-deltas = noModeDeltas }
 
 unfoldable pub readDelta : Name → Name → Name → ℕ → Reader DeltaValues
 readDelta x y z n = do
@@ -123,20 +112,15 @@ readRefDeltas = many 0 4 readRefDelta
 unfoldable pub readModeDeltas : Reader (Times 2 DeltaValues)
 readModeDeltas = many 0 2 readModeDelta
 
-unfoldable pub readLoopDeltas : Reader LoopDeltasValues
-readLoopDeltas = do
-  u ← field (the "loop_filter_delta_update") 1
-  r ← groupIf (flag u) noRefDeltas readRefDeltas
-  m ← groupIf (flag u) noModeDeltas readModeDeltas
-  give (record { delta-update = u; ref-deltas = r; mode-deltas = m })
-
 unfoldable pub readLoopFilter : Reader LoopFilterValues
 readLoopFilter = do
   l ← field (the "loop_filter_level") 6
   h ← field (the "loop_filter_sharpness") 3
   e ← field (the "loop_filter_delta_enabled") 1
-  d ← groupIf (flag e) noLoopDeltas readLoopDeltas
-  give (record { level = l; sharpness = h; delta-enabled = e; deltas = d })
+  u ← fieldIf (flag e) (the "loop_filter_delta_update") 1
+  r ← groupIf (flag u) noRefDeltas readRefDeltas
+  m ← groupIf (flag u) noModeDeltas readModeDeltas
+  give (record { level = l; sharpness = h; delta-enabled = e; delta-update = u; ref-deltas = r; mode-deltas = m })
 
 -- quantization_params()
 abbrev pub noQuantizer : QuantizerValues
@@ -160,20 +144,24 @@ noProb = record { coded = 0; prob = 0 }
 abbrev pub noProbs : (n : ℕ) → Times n ProbValues
 noProbs n = times n noProb
 
-abbrev pub noMap : MapValues
-noMap = record { update-map = 0; tree-probs = noProbs 7; temporal-update = 0; pred-probs = noProbs 3 }
-
 abbrev pub noFeature : FeatureValues
 noFeature = record { feature-enabled = 0; feature-value = 0; feature-sign = 0 }
 
 abbrev pub noFeatures : Times 8 (Times 4 FeatureValues)
 noFeatures = times 8 (times 4 noFeature)
 
-abbrev pub noData : DataValues
-noData = record { update-data = 0; abs-or-delta-update = 0; features = noFeatures }
-
 abbrev pub noSegmentation : SegmentationValues
-noSegmentation = record { enabled = 0; map-part = noMap; data-part = noData }
+noSegmentation =
+    record {
+      enabled = 0;
+      update-map = 0;
+      tree-probs = noProbs 7;
+      temporal-update = 0;
+      pred-probs = noProbs 3;
+      update-data = 0;
+      abs-or-delta-update = 0;
+      features = noFeatures;
+    }
 
 unfoldable pub readProb : Name → Name → Reader ProbValues
 readProb x y = do
@@ -183,14 +171,6 @@ readProb x y = do
 
 unfoldable pub readProbs : String → String → (n : ℕ) → Reader (Times n ProbValues)
 readProbs x y n = many 0 n (λ i. readProb (item x i) (item y i))
-
-unfoldable pub readMap : Reader MapValues
-readMap = do
-  m ← field (the "segmentation_update_map") 1
-  t ← groupIf (flag m) (noProbs 7) (readProbs "tree_prob_coded" "segmentation_tree_probs" 7)
-  u ← fieldIf (flag m) (the "segmentation_temporal_update") 1
-  p ← groupIf (flag u) (noProbs 3) (readProbs "pred_prob_coded" "segmentation_pred_prob" 3)
-  give (record { update-map = m; tree-probs = t; temporal-update = u; pred-probs = p })
 
 unfoldable pub readFeature : ℕ → ℕ → Reader FeatureValues
 readFeature i j = do
@@ -202,19 +182,17 @@ readFeature i j = do
 unfoldable pub readFeatures : Reader (Times 8 (Times 4 FeatureValues))
 readFeatures = many 0 8 (λ i. many 0 4 (readFeature i))
 
-unfoldable pub readData : Reader DataValues
-readData = do
-  d ← field (the "segmentation_update_data") 1
-  a ← fieldIf (flag d) (the "segmentation_abs_or_delta_update") 1
-  f ← groupIf (flag d) noFeatures readFeatures
-  give (record { update-data = d; abs-or-delta-update = a; features = f })
-
 unfoldable pub readSegmentation : Reader SegmentationValues
 readSegmentation = do
   e ← field (the "segmentation_enabled") 1
-  m ← groupIf (flag e) noMap readMap
-  d ← groupIf (flag e) noData readData
-  give (record { enabled = e; map-part = m; data-part = d })
+  m ← fieldIf (flag e) (the "segmentation_update_map") 1
+  t ← groupIf (flag m) (noProbs 7) (readProbs "tree_prob_coded" "segmentation_tree_probs" 7)
+  u ← fieldIf (flag m) (the "segmentation_temporal_update") 1
+  p ← groupIf (flag u) (noProbs 3) (readProbs "pred_prob_coded" "segmentation_pred_prob" 3)
+  d ← fieldIf (flag e) (the "segmentation_update_data") 1
+  a ← fieldIf (flag d) (the "segmentation_abs_or_delta_update") 1
+  f ← groupIf (flag d) noFeatures readFeatures
+  give (record { enabled = e; update-map = m; tree-probs = t; temporal-update = u; pred-probs = p; update-data = d; abs-or-delta-update = a; features = f })
 
 -- tile_info(); of a run, how many bits b there are
 abbrev pub noTiles : TilesValues

@@ -66,10 +66,10 @@ frameOf st profile v bytes =
     record {
       profile = profileOf profile;
       «bit_depth» = colored profile v (depthOf profile (c .ten-or-twelve-bit)) Depth8 (st .«bit_depth»);
-      «subsampling_x» = colored profile v (subsampling profile (c .color-space) (c .sampling .subsampling-x)) true (st .«subsampling_x»);
-      «subsampling_y» = colored profile v (subsampling profile (c .color-space) (c .sampling .subsampling-y)) true (st .«subsampling_y»);
+      «subsampling_x» = colored profile v (subsampling profile (c .color-space) (c .subsampling-x)) true (st .«subsampling_x»);
+      «subsampling_y» = colored profile v (subsampling profile (c .color-space) (c .subsampling-y)) true (st .«subsampling_y»);
       «color_space» = colored profile v (colorSpaceOf (c .color-space)) Bt601 (st .«color_space»);
-      «color_range» = colored profile v (rangeOf (c .color-space) (c .sampling .color-range)) StudioSwing (st .«color_range»);
+      «color_range» = colored profile v (rangeOf (c .color-space) (c .color-range)) StudioSwing (st .«color_range»);
       «show_existing_frame» = false;
       «frame_to_show_map_idx» = 0;
       «frame_type» = pick (isKey v) KeyFrame InterFrame;

@@ -28,8 +28,7 @@ movedFrom i (suc n) v old = pick (flag (v .0 .coded)) (deltaValue (v .0)) (getD 
 
 unfoldable pub loopFilterOf : Bool → LoopFilterParams → LoopFilterValues → LoopFilterParams
 loopFilterOf independent old v =
-    let d = v .deltas in
-    let updated = flag (d .delta-update) in
+    let updated = flag (v .delta-update) in
     let refs = pick independent (pos 1 ∷ pos 0 ∷ negsuc 0 ∷ negsuc 0 ∷ []) (old .«ref_deltas») in
     let modes = pick independent (replicate 2 (pos 0)) (old .«mode_deltas») in
     record {
@@ -37,10 +36,10 @@ loopFilterOf independent old v =
       sharpness = v .sharpness;
       «delta_enabled» = flag (v .delta-enabled);
       «delta_update» = pick (flag (v .delta-enabled)) updated (old .«delta_update»);
-      «update_ref_delta» = pick updated (eachOf (λ x. flag (x .coded)) 4 (d .ref-deltas)) (old .«update_ref_delta»);
-      «ref_deltas» = pick updated (movedFrom 0 4 (d .ref-deltas) refs) refs;
-      «update_mode_delta» = pick updated (eachOf (λ x. flag (x .coded)) 2 (d .mode-deltas)) (old .«update_mode_delta»);
-      «mode_deltas» = pick updated (movedFrom 0 2 (d .mode-deltas) modes) modes;
+      «update_ref_delta» = pick updated (eachOf (λ x. flag (x .coded)) 4 (v .ref-deltas)) (old .«update_ref_delta»);
+      «ref_deltas» = pick updated (movedFrom 0 4 (v .ref-deltas) refs) refs;
+      «update_mode_delta» = pick updated (eachOf (λ x. flag (x .coded)) 2 (v .mode-deltas)) (old .«update_mode_delta»);
+      «mode_deltas» = pick updated (movedFrom 0 2 (v .mode-deltas) modes) modes;
     }
 
 -- a quantizer's delta that isn't coded is 0
@@ -80,18 +79,16 @@ rowOf f (suc n) v = eachOf f 4 (v .0) ++ rowOf f n (v .1)
 -- an update of the map sets every probability, and one of the data every feature
 unfoldable pub segmentationOf : Bool → SegmentationParams → SegmentationValues → SegmentationParams
 segmentationOf independent old v =
-    let m = v .map-part in
-    let d = v .data-part in
-    let mapped = flag (m .update-map) in
-    let updated = flag (d .update-data) in
+    let mapped = flag (v .update-map) in
+    let updated = flag (v .update-data) in
     record {
       enabled = flag (v .enabled);
       «update_map» = mapped;
-      «tree_probs» = pick mapped (eachOf probOf 7 (m .tree-probs)) (old .«tree_probs»);
-      «pred_probs» = pick mapped (eachOf probOf 3 (m .pred-probs)) (old .«pred_probs»);
-      «temporal_update» = pick mapped (flag (m .temporal-update)) (old .«temporal_update»);
+      «tree_probs» = pick mapped (eachOf probOf 7 (v .tree-probs)) (old .«tree_probs»);
+      «pred_probs» = pick mapped (eachOf probOf 3 (v .pred-probs)) (old .«pred_probs»);
+      «temporal_update» = pick mapped (flag (v .temporal-update)) (old .«temporal_update»);
       «update_data» = updated;
-      «abs_or_delta_update» = pick updated (flag (d .abs-or-delta-update)) (pick independent false (old .«abs_or_delta_update»));
-      «feature_enabled» = pick updated (rowOf enabledOf 8 (d .features)) (pick independent (replicate 32 false) (old .«feature_enabled»));
-      «feature_data» = pick updated (rowOf dataValue 8 (d .features)) (pick independent (replicate 32 (pos 0)) (old .«feature_data»));
+      «abs_or_delta_update» = pick updated (flag (v .abs-or-delta-update)) (pick independent false (old .«abs_or_delta_update»));
+      «feature_enabled» = pick updated (rowOf enabledOf 8 (v .features)) (pick independent (replicate 32 false) (old .«feature_enabled»));
+      «feature_data» = pick updated (rowOf dataValue 8 (v .features)) (pick independent (replicate 32 (pos 0)) (old .«feature_data»));
     }

@@ -3,24 +3,21 @@
 use Prim.Native.Nat.{ℕ, zero, suc, _+_, _*_, _-_, _/_, _%_, _^_}
 use Prim.Native.String.{String}
 use mathlib.Core.Bool.{Bool, true, false, not, _&&_}
-use mathlib.Core.List.{List, [], _∷_, _++_}
+use mathlib.Core.List.{List, [], _∷_}
 use lib.Dec.{eqb, leb, ltb}
 use lib.ListN.{getD}
 use Rattle.bits.specs.Refusal.{Name, the, item}
-use Rattle.bits.specs.Syntax.{Field, fld, flag, _then_, pick, fldIf, optional}
+use Rattle.bits.specs.Syntax.{Field, fld, flag, pick, fldIf, optional, _then_}
 use Rattle.bits.specs.Many.{Times, manyFields}
 
 -- color_config() (6.2.2), for a profile: profiles 2 and 3 code the depth, and 1 and 3 the subsampling, unless the colour space is RGB, which has no range either
-pub record SamplingValues : Type 0 where
+pub record ColorValues : Type 0 where
+  pub ten-or-twelve-bit : ℕ
+  pub color-space : ℕ
   pub color-range : ℕ
   pub subsampling-x : ℕ
   pub subsampling-y : ℕ
   pub reserved-zero : ℕ
-
-pub record ColorValues : Type 0 where
-  pub ten-or-twelve-bit : ℕ
-  pub color-space : ℕ
-  pub sampling : SamplingValues
 
 abbrev pub deep : ℕ → Bool
 deep profile = leb 2 profile
@@ -31,19 +28,16 @@ sampled profile = eqb (profile % 2) 1
 abbrev pub srgb : ℕ → Bool
 srgb space = eqb space 7
 
-unfoldable pub samplingFields : ℕ → ℕ → SamplingValues → List Field
-samplingFields profile space v =
-    fldIf (not (srgb space)) (the "color_range") 1 (v .color-range)
-    ∷ fldIf (not (srgb space) && sampled profile) (the "subsampling_x") 1 (v .subsampling-x)
-    ∷ fldIf (not (srgb space) && sampled profile) (the "subsampling_y") 1 (v .subsampling-y)
-    ∷ fldIf (sampled profile) (the "reserved_zero") 1 (v .reserved-zero)
-    ∷ []
-
 unfoldable pub colorFields : ℕ → ColorValues → List Field
 colorFields profile v =
+    let yuv = not (srgb (v .color-space)) in
     fldIf (deep profile) (the "ten_or_twelve_bit") 1 (v .ten-or-twelve-bit)
     ∷ fld (the "color_space") 3 (v .color-space)
-    ∷ samplingFields profile (v .color-space) (v .sampling)
+    ∷ fldIf yuv (the "color_range") 1 (v .color-range)
+    ∷ fldIf (yuv && sampled profile) (the "subsampling_x") 1 (v .subsampling-x)
+    ∷ fldIf (yuv && sampled profile) (the "subsampling_y") 1 (v .subsampling-y)
+    ∷ fldIf (sampled profile) (the "reserved_zero") 1 (v .reserved-zero)
+    ∷ []
 
 -- frame_size() (6.2.3) and the two numbers of render_size(), under the names x and y
 pub record SizeValues : Type 0 where
@@ -105,17 +99,14 @@ pub record DeltaValues : Type 0 where
 unfoldable pub deltaFields : Name → Name → Name → ℕ → DeltaValues → List Field
 deltaFields x y z n v = fld x 1 (v .coded) ∷ fldIf (flag (v .coded)) y n (v .magnitude) ∷ fldIf (flag (v .coded)) z 1 (v .sign) ∷ []
 
--- loop_filter_params() (6.2.8): the deltas of the four references and of the two modes are there where loop_filter_delta_update is 1
-pub record LoopDeltasValues : Type 0 where
-  pub delta-update : ℕ
-  pub ref-deltas : Times 4 DeltaValues
-  pub mode-deltas : Times 2 DeltaValues
-
+-- loop_filter_params() (6.2.8), with the deltas of the four references and of the two modes
 pub record LoopFilterValues : Type 0 where
   pub level : ℕ
   pub sharpness : ℕ
   pub delta-enabled : ℕ
-  pub deltas : LoopDeltasValues
+  pub delta-update : ℕ
+  pub ref-deltas : Times 4 DeltaValues
+  pub mode-deltas : Times 2 DeltaValues
 
 abbrev pub refDelta : ℕ → DeltaValues → List Field
 refDelta i = deltaFields (item "update_ref_delta" i) (item "loop_filter_ref_deltas" i) (item "loop_filter_ref_deltas_sign" i) 6
@@ -123,18 +114,14 @@ refDelta i = deltaFields (item "update_ref_delta" i) (item "loop_filter_ref_delt
 abbrev pub modeDelta : ℕ → DeltaValues → List Field
 modeDelta i = deltaFields (item "update_mode_delta" i) (item "loop_filter_mode_deltas" i) (item "loop_filter_mode_deltas_sign" i) 6
 
-unfoldable pub loopDeltasFields : LoopDeltasValues → List Field
-loopDeltasFields v =
-    fld (the "loop_filter_delta_update") 1 (v .delta-update)
-    ∷ optional (flag (v .delta-update)) (manyFields refDelta 0 4 (v .ref-deltas))
-    then optional (flag (v .delta-update)) (manyFields modeDelta 0 2 (v .mode-deltas))
-
 unfoldable pub loopFilterFields : LoopFilterValues → List Field
 loopFilterFields v =
     fld (the "loop_filter_level") 6 (v .level)
     ∷ fld (the "loop_filter_sharpness") 3 (v .sharpness)
     ∷ fld (the "loop_filter_delta_enabled") 1 (v .delta-enabled)
-    ∷ optional (flag (v .delta-enabled)) (loopDeltasFields (v .deltas))
+    ∷ fldIf (flag (v .delta-enabled)) (the "loop_filter_delta_update") 1 (v .delta-update)
+    ∷ optional (flag (v .delta-update)) (manyFields refDelta 0 4 (v .ref-deltas))
+    then optional (flag (v .delta-update)) (manyFields modeDelta 0 2 (v .mode-deltas))
 
 -- quantization_params() (6.2.9)
 pub record QuantizerValues : Type 0 where
@@ -184,44 +171,30 @@ featureFields i j v =
     ∷ fldIf (flag (v .feature-enabled) && featureSigned j) (feature "feature_sign" i j) 1 (v .feature-sign)
     ∷ []
 
--- segmentation_params() (6.2.11): the map's part, the features' part, and the whole
-pub record MapValues : Type 0 where
+-- segmentation_params() (6.2.11)
+pub record SegmentationValues : Type 0 where
+  pub enabled : ℕ
   pub update-map : ℕ
   pub tree-probs : Times 7 ProbValues
   pub temporal-update : ℕ
   pub pred-probs : Times 3 ProbValues
-
-pub record DataValues : Type 0 where
   pub update-data : ℕ
   pub abs-or-delta-update : ℕ
   pub features : Times 8 (Times 4 FeatureValues)
 
-pub record SegmentationValues : Type 0 where
-  pub enabled : ℕ
-  pub map-part : MapValues
-  pub data-part : DataValues
-
-unfoldable pub mapFields : MapValues → List Field
-mapFields v =
-    fld (the "segmentation_update_map") 1 (v .update-map)
-    ∷ optional (flag (v .update-map)) (probsFields "tree_prob_coded" "segmentation_tree_probs" 7 (v .tree-probs))
-    then fldIf (flag (v .update-map)) (the "segmentation_temporal_update") 1 (v .temporal-update)
-    ∷ optional (flag (v .temporal-update)) (probsFields "pred_prob_coded" "segmentation_pred_prob" 3 (v .pred-probs))
-
 unfoldable pub featuresFields : Times 8 (Times 4 FeatureValues) → List Field
 featuresFields = manyFields (λ i. manyFields (featureFields i) 0 4) 0 8
-
-unfoldable pub dataFields : DataValues → List Field
-dataFields v =
-    fld (the "segmentation_update_data") 1 (v .update-data)
-    ∷ fldIf (flag (v .update-data)) (the "segmentation_abs_or_delta_update") 1 (v .abs-or-delta-update)
-    ∷ optional (flag (v .update-data)) (featuresFields (v .features))
 
 unfoldable pub segmentationFields : SegmentationValues → List Field
 segmentationFields v =
     fld (the "segmentation_enabled") 1 (v .enabled)
-    ∷ optional (flag (v .enabled)) (mapFields (v .map-part))
-    then optional (flag (v .enabled)) (dataFields (v .data-part))
+    ∷ fldIf (flag (v .enabled)) (the "segmentation_update_map") 1 (v .update-map)
+    ∷ optional (flag (v .update-map)) (probsFields "tree_prob_coded" "segmentation_tree_probs" 7 (v .tree-probs))
+    then fldIf (flag (v .update-map)) (the "segmentation_temporal_update") 1 (v .temporal-update)
+    ∷ optional (flag (v .temporal-update)) (probsFields "pred_prob_coded" "segmentation_pred_prob" 3 (v .pred-probs))
+    then fldIf (flag (v .enabled)) (the "segmentation_update_data") 1 (v .update-data)
+    ∷ fldIf (flag (v .update-data)) (the "segmentation_abs_or_delta_update") 1 (v .abs-or-delta-update)
+    ∷ optional (flag (v .update-data)) (featuresFields (v .features))
 
 -- a run of k bits 1 in a row, the first of them number i of the name x, which a 0 ends unless there are n; past n of them there are no bits, and so k is 0
 unfoldable pub runFields : String → ℕ → ℕ → ℕ → List Field

@@ -1,13 +1,14 @@
 -- uncompressed_header() is read as the parts are that the code reads, one after the other.
 -- Assumes nothing.
 use Prim.Native.Nat.{ℕ}
-use mathlib.Core.Path.{_≡_, refl}
-use mathlib.Core.Bool.{Bool, true, false, not}
+use mathlib.Core.Path.{_≡_}
+use mathlib.Core.Bool.{not}
 use mathlib.Core.List.{List}
 use lib.Dec.{eqb}
 use Rattle.bits.specs.Refusal.{the}
 use Rattle.bits.specs.Syntax.{flag, pick}
-use Rattle.bits.specs.Reader.{Read, read, stopped, bind, field, groupIf, fieldIf}
+use Rattle.bits.specs.Reader.{Read, read, bind, field, groupIf, fieldIf}
+use Rattle.bits.proofs.Binds.{bind-assoc, bind-same, split}
 use Rattle.settings.specs.declared.size.FrameSize.{FrameSize}
 use Rattle.grammar.specs.Tables.{foundAt}
 use Rattle.grammar.specs.Header.{FrameValues, HeaderValues, sizeFrom}
@@ -30,14 +31,6 @@ use Rattle.lead.specs.Shot.{readShot}
 use Rattle.lead.specs.Lead.{LeadValues, readLead}
 use Rattle.tail.specs.Settings.{SettingsValues, readSettings}
 use Rattle.tail.specs.Closing.{ClosingValues, readClosing}
-
-pub bind-assoc : {A B C : Type 0} (m : Read A) (k : A → ℕ → Read B) (l : B → ℕ → Read C) → bind (bind m k) l ≡ bind m (λ a p. bind (k a p) l)
-bind-assoc (read a p) k l = refl
-bind-assoc (stopped w) k l = refl
-
-pub bind-same : {A B : Type 0} (m : Read A) (k l : A → ℕ → Read B) → ((a : A) (p : ℕ) → k a p ≡ l a p) → bind m k ≡ bind m l
-bind-same (read a p) k l h = h a p
-bind-same (stopped w) k l h = refl
 
 -- one of three, by the kind of frame
 abbrev byKind : {A : Type 0} → LeadValues → A → A → A → A
@@ -83,11 +76,6 @@ inParts slots profile s p =
     bind (readLead profile s p) λ l q. bind (readSettings s q) λ g r.
     bind (readClosing (sizeFrom slots (byKind l noRefs noRefs (l .shot .inter .sources .refs)) (byKind l noFound noFound (l .shot .inter .sizes .found-ref)) (byKind l (l .shot .key .sizes .size) (l .shot .intra-only .sizes .size) (l .shot .inter .sizes .size)) .width) s r) λ c t.
     read (flatFrame l g c) t
-
--- by a test, whichever way it goes
-pub split : {X : Type 0} (b : Bool) → (b ≡ true → X) → (b ≡ false → X) → X
-split true f g = f refl
-split false f g = g refl
 
 pub in-parts : (slots : List FrameSize) (profile : ℕ) (s : List ℕ) (p : ℕ) → readFrame slots profile s p ≡ inParts slots profile s p
 unfolding readFrame readLead readTraits readShot readKind readKey readIntraOnly readIntraColor readInter readSources readSizes readSizeWithRefs readMotion readFilter readContext readSettings readClosing groupIf fieldIf foundAt

@@ -5,6 +5,7 @@ use mathlib.Core.Path.{_≡_}
 use mathlib.Core.List.{List}
 use lib.Dec.{eqb, ltb}
 use Rattle.bits.specs.Syntax.{flag}
+use Rattle.bits.proofs.Binds.{split}
 use Rattle.settings.specs.declared.size.FrameSize.{FrameSize}
 use Rattle.types.specs.declared.state.ReaderState.{ReaderState}
 use Rattle.traits.specs.Traits.{traitsOf}
@@ -35,7 +36,7 @@ use Rattle.grammar.specs.Tables.{foundAt}
 use Rattle.grammar.specs.Settings.{loopFilterOf, segmentationOf}
 use Rattle.grammar.specs.Record.{frameOf, stateFrom}
 use Rattle.header.specs.Parts.{rememberedColor}
-use Rattle.header.proofs.Flat.{split, flatFrame, widthFrom}
+use Rattle.header.proofs.Flat.{flatFrame, widthFrom}
 
 module _ (st : ReaderState) (profile : ℕ) (l : LeadValues) (g : SettingsValues) (c : ClosingValues) where
   abbrev slots : List FrameSize

@@ -8,6 +8,7 @@ use native.Mathlib.Omega.{arith}
 use lib.Dec.{eqb}
 use Rattle.bits.specs.Syntax.{flag, size, pick}
 use Rattle.bits.specs.Reader.{read, bind, groupIf}
+use Rattle.bits.proofs.Binds.{split}
 use Rattle.settings.specs.declared.size.FrameSize.{FrameSize}
 use Rattle.types.specs.declared.state.ReaderState.{ReaderState}
 use Rattle.traits.specs.Traits.{traitsOf}
@@ -37,7 +38,7 @@ use Rattle.header.specs.declared.HeaderRead.{HeaderRead}
 use Rattle.header.specs.Parts.{rememberedColor, widthOf, finished, framed, shownHeader}
 use Rattle.header.specs.Answer.{accepted, outcome, parsed}
 use Rattle.header.proofs.Outcomes.{outcome-bind, outcome-same}
-use Rattle.header.proofs.Flat.{split, flatFrame, flatHeader, widthFrom, in-parts, opening-first}
+use Rattle.header.proofs.Flat.{flatFrame, flatHeader, widthFrom, in-parts, opening-first}
 use Rattle.header.proofs.Parts.{opened}
 use Rattle.header.proofs.Record.{frame-parts, state-parts}
 

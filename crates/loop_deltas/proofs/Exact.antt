@@ -9,8 +9,7 @@ use Rattle.bits.specs.declared.Refusal.{Refusal}
 use Rattle.bits.specs.Reader.{Got, got, refused, over, viewNext}
 use Rattle.settings.specs.declared.loop_filter.LoopFilterParams.{LoopFilterParams}
 use Rattle.loop_deltas.specs.declared.LoopFilterRead.{LoopFilterRead}
-use Rattle.loop_deltas.specs.LoopDeltas.{loopDeltasOf, viewLoopFilter}
-use Rattle.grammar.specs.Reading.{readLoopDeltas}
+use Rattle.loop_deltas.specs.LoopDeltas.{loopDeltasOf, viewLoopFilter, readLoopDeltas}
 
 -- the answer that an answer of the definition is; the old settings go with a refusal
 asLoopFilter : LoopFilterParams → Got LoopFilterParams → LoopFilterRead

@@ -6,12 +6,12 @@ use mathlib.Core.List.{List, [], _∷_}
 use lib.IntN.{ℤ, pos}
 use lib.ListN.{getD}
 use Rattle.bits.specs.Syntax.{flag, pick}
-use Rattle.bits.specs.Reader.{Got, got, refused, viewNext}
+use Rattle.bits.specs.Reader.{Got, got, refused, viewNext, _>>=_, field, groupIf, Reader, give}
 use Rattle.bits.specs.Many.{Times}
 use Rattle.bits.specs.declared.Refusal.the-variants.{PastEnd}
 use Rattle.coded.specs.declared.Delta.{Delta}
 use Rattle.coded.specs.Delta.{deltaOf}
-use Rattle.grammar.specs.Tables.{DeltaValues, LoopDeltasValues}
+use Rattle.grammar.specs.Tables.{DeltaValues}
 use Rattle.settings.specs.declared.loop_filter.LoopFilterParams.{LoopFilterParams}
 use Rattle.loop_deltas.specs.declared.LoopFilterRead.{LoopFilterRead}
 use Rattle.loop_deltas.specs.declared.RefDeltas.{RefDeltas}
@@ -20,6 +20,23 @@ use Rattle.loop_deltas.specs.declared.RefDeltasRead.the-variants.{Value 
 use Rattle.loop_deltas.specs.declared.ModeDeltas.{ModeDeltas}
 use Rattle.loop_deltas.specs.declared.ModeDeltasRead.{ModeDeltasRead}
 use Rattle.loop_deltas.specs.declared.ModeDeltasRead.the-variants.{Value as Modes, Short as NoModes}
+use Rattle.grammar.specs.Reading.{noRefDeltas, noModeDeltas, readRefDeltas, readModeDeltas}
+use Rattle.bits.specs.Refusal.{the}
+
+pub record LoopDeltasValues : Type 0 where
+  pub delta-update : ℕ
+  pub ref-deltas : Times 4 DeltaValues
+  pub mode-deltas : Times 2 DeltaValues
+
+abbrev pub noLoopDeltas : LoopDeltasValues
+noLoopDeltas = record { delta-update = 0; ref-deltas = noRefDeltas; mode-deltas = noModeDeltas }
+
+unfoldable pub readLoopDeltas : Reader LoopDeltasValues
+readLoopDeltas = do
+  u ← field (the "loop_filter_delta_update") 1
+  r ← groupIf (flag u) noRefDeltas readRefDeltas
+  m ← groupIf (flag u) noModeDeltas readModeDeltas
+  give (record { delta-update = u; ref-deltas = r; mode-deltas = m })
 
 -- the code's answer, from the remembered settings
 unfoldable pub refDeltasOf : Times 4 DeltaValues → RefDeltas

@@ -1,8 +1,8 @@
 // The deltas of loop_filter_params(): what references and modes add to the level.
 ghost use mathlib.Core.Path.{_≡_};
 ghost use Rattle.bits.specs.Reader.{over};
-ghost use Rattle.loop_deltas.specs.LoopDeltas.{refDeltasOf, modeDeltasOf, moved, movedRefs, movedModes, withDeltas, loopDeltasOf, viewRefDeltas, viewModeDeltas, viewLoopFilter};
-ghost use Rattle.grammar.specs.Reading.{readRefDeltas, readModeDeltas, readLoopDeltas};
+ghost use Rattle.loop_deltas.specs.LoopDeltas.{refDeltasOf, modeDeltasOf, moved, movedRefs, movedModes, withDeltas, loopDeltasOf, viewRefDeltas, viewModeDeltas, viewLoopFilter, readLoopDeltas};
+ghost use Rattle.grammar.specs.Reading.{readRefDeltas, readModeDeltas};
 use bits::Bits;
 use bits::Cursor;
 use bits::Next;

@@ -7,8 +7,7 @@ use Rattle.bits.specs.Reader.{Got, got, refused, over}
 use Rattle.sampling.specs.declared.Sampling.{Sampling}
 use Rattle.sampling.specs.declared.SamplingRead.{SamplingRead}
 use Rattle.sampling.specs.declared.SamplingRead.the-variants.{Value as Sampled, Short as Unsampled}
-use Rattle.sampling.specs.Sampling.{samplingOf, viewSampling}
-use Rattle.grammar.specs.Reading.{readSampling}
+use Rattle.sampling.specs.Sampling.{samplingOf, viewSampling, readSampling}
 
 -- the answer that an answer of the definition is
 asSampling : Got Sampling → SamplingRead

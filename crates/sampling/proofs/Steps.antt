@@ -13,9 +13,7 @@ use Rattle.bits.proofs.Steps.{group-step, group-stop}
 use Rattle.sampling.specs.declared.Sampling.{Sampling}
 use Rattle.sampling.specs.declared.SamplingRead.{SamplingRead}
 use Rattle.sampling.specs.declared.SamplingRead.the-variants.{Value as Sampled, Short as Unsampled}
-use Rattle.sampling.specs.Sampling.{samplingOf, viewSampling}
-use Rattle.grammar.specs.Tables.{SamplingValues}
-use Rattle.grammar.specs.Reading.{readSampling}
+use Rattle.sampling.specs.Sampling.{samplingOf, viewSampling, SamplingValues, readSampling}
 use Rattle.sampling.proofs.SamplingRead.{the-type as the-sampling}
 
 no-sampling : {x : Got Sampling} (r : SamplingRead) → viewSampling r ≡ x → OneOf (1 ∷ []) (tagOf the-sampling r) → refused PastEnd ≡ x

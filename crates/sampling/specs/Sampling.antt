@@ -2,17 +2,32 @@
 -- Assumes nothing.
 use Prim.Native.Nat.{ℕ}
 use mathlib.Core.Bool.{Bool, not, _&&_}
-use Rattle.bits.specs.Reader.{Got, got, refused}
+use Rattle.bits.specs.Reader.{Got, got, refused, _>>=_, fieldIf, Reader, give}
 use Rattle.bits.specs.declared.Refusal.the-variants.{PastEnd}
 use Rattle.sampling.specs.declared.Sampling.{Sampling}
 use Rattle.sampling.specs.declared.SamplingRead.{SamplingRead}
 use Rattle.sampling.specs.declared.SamplingRead.the-variants.{Value, Short}
-use Rattle.grammar.specs.Tables.{SamplingValues, sampled, srgb}
+use Rattle.grammar.specs.Tables.{sampled, srgb}
 use Rattle.grammar.specs.Record.{rangeOf, subsampling}
+use Rattle.bits.specs.Refusal.{the}
 
--- unless the colour space is RGB
+pub record SamplingValues : Type 0 where
+  pub color-range : ℕ
+  pub subsampling-x : ℕ
+  pub subsampling-y : ℕ
+  pub reserved-zero : ℕ
+
+-- profiles 1 and 3 code subsampling, unless the colour space is RGB
 abbrev pub chroma : ℕ → ℕ → Bool
 chroma profile space = not (srgb space) && sampled profile
+
+unfoldable pub readSampling : ℕ → ℕ → Reader SamplingValues
+readSampling profile space = do
+  r ← fieldIf (not (srgb space)) (the "color_range") 1
+  x ← fieldIf (chroma profile space) (the "subsampling_x") 1
+  y ← fieldIf (chroma profile space) (the "subsampling_y") 1
+  z ← fieldIf (sampled profile) (the "reserved_zero") 1
+  give (record { color-range = r; subsampling-x = x; subsampling-y = y; reserved-zero = z })
 
 -- the code's answer
 unfoldable pub samplingOf : ℕ → ℕ → SamplingValues → Sampling

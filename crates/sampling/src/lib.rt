@@ -1,9 +1,8 @@
 // What color_config() has after color_space: range and subsampling.
 ghost use mathlib.Core.Path.{_≡_};
 ghost use Rattle.bits.specs.Reader.{over};
-ghost use Rattle.sampling.specs.Sampling.{samplingOf, viewSampling};
+ghost use Rattle.sampling.specs.Sampling.{samplingOf, viewSampling, readSampling};
 ghost use Rattle.grammar.specs.Record.{rangeOf, subsampling};
-ghost use Rattle.grammar.specs.Reading.{readSampling};
 use bits::Bits;
 use bits::Cursor;
 use enums::ColorRange;

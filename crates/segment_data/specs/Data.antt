@@ -6,13 +6,30 @@ use mathlib.Core.Path.{_≡_}
 use mathlib.Core.List.{List}
 use lib.IntN.{ℤ}
 use Rattle.bits.specs.Syntax.{flag, pick}
-use Rattle.bits.specs.Reader.{over}
+use Rattle.bits.specs.Reader.{over, _>>=_, field, fieldIf, groupIf, Reader, give}
 use Rattle.settings.specs.declared.segmentation.SegmentationParams.{SegmentationParams}
 use Rattle.segment_map.specs.declared.SegmentationRead.{SegmentationRead}
 use Rattle.segment_map.specs.Answer.{viewSegmentation, Kept}
 use Rattle.segment_data.specs.Features.{featuresOf}
-use Rattle.grammar.specs.Tables.{DataValues}
-use Rattle.grammar.specs.Reading.{readData}
+use Rattle.grammar.specs.Tables.{FeatureValues}
+use Rattle.grammar.specs.Reading.{noFeatures, readFeatures}
+use Rattle.bits.specs.Refusal.{the}
+use Rattle.bits.specs.Many.{Times}
+
+pub record DataValues : Type 0 where
+  pub update-data : ℕ
+  pub abs-or-delta-update : ℕ
+  pub features : Times 8 (Times 4 FeatureValues)
+
+abbrev pub noData : DataValues
+noData = record { update-data = 0; abs-or-delta-update = 0; features = noFeatures }
+
+unfoldable pub readData : Reader DataValues
+readData = do
+  d ← field (the "segmentation_update_data") 1
+  a ← fieldIf (flag d) (the "segmentation_abs_or_delta_update") 1
+  f ← groupIf (flag d) noFeatures readFeatures
+  give (record { update-data = d; abs-or-delta-update = a; features = f })
 
 -- the code's answer: the settings with another features' part
 abbrev pub withData : SegmentationParams → Bool → Bool → List Bool → List ℤ → SegmentationParams

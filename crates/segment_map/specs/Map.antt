@@ -5,14 +5,32 @@ use mathlib.Core.Bool.{Bool, true, false}
 use mathlib.Core.Path.{_≡_}
 use mathlib.Core.List.{List}
 use Rattle.bits.specs.Syntax.{flag, pick}
-use Rattle.bits.specs.Reader.{over}
+use Rattle.bits.specs.Reader.{over, _>>=_, field, fieldIf, groupIf, Reader, give}
 use Rattle.grammar.specs.Settings.{probOf}
 use Rattle.settings.specs.declared.segmentation.SegmentationParams.{SegmentationParams}
 use Rattle.segment_map.specs.declared.SegmentationRead.{SegmentationRead}
 use Rattle.segment_map.specs.Answer.{viewSegmentation, Kept}
-use Rattle.bits.specs.Many.{eachOf}
-use Rattle.grammar.specs.Tables.{MapValues}
-use Rattle.grammar.specs.Reading.{readMap}
+use Rattle.bits.specs.Many.{eachOf, Times}
+use Rattle.grammar.specs.Tables.{ProbValues}
+use Rattle.grammar.specs.Reading.{noProbs, readProbs}
+use Rattle.bits.specs.Refusal.{the}
+
+pub record MapValues : Type 0 where
+  pub update-map : ℕ
+  pub tree-probs : Times 7 ProbValues
+  pub temporal-update : ℕ
+  pub pred-probs : Times 3 ProbValues
+
+abbrev pub noMap : MapValues
+noMap = record { update-map = 0; tree-probs = noProbs 7; temporal-update = 0; pred-probs = noProbs 3 }
+
+unfoldable pub readMap : Reader MapValues
+readMap = do
+  m ← field (the "segmentation_update_map") 1
+  t ← groupIf (flag m) (noProbs 7) (readProbs "tree_prob_coded" "segmentation_tree_probs" 7)
+  u ← fieldIf (flag m) (the "segmentation_temporal_update") 1
+  p ← groupIf (flag u) (noProbs 3) (readProbs "pred_prob_coded" "segmentation_pred_prob" 3)
+  give (record { update-map = m; tree-probs = t; temporal-update = u; pred-probs = p })
 
 -- the code's answer: the settings with another map part
 abbrev pub withMap : SegmentationParams → Bool → List ℕ → List ℕ → Bool → SegmentationParams

@@ -8,29 +8,28 @@ use Rattle.bits.specs.declared.Next.{Next}
 use Rattle.bits.specs.declared.Next.the-variants.{At}
 use Rattle.bits.specs.Reader.{got, viewNext}
 use Rattle.settings.specs.declared.segmentation.SegmentationParams.{SegmentationParams}
-use Rattle.segment_map.specs.Map.{mapOf}
-use Rattle.grammar.specs.Tables.{MapValues, DataValues, SegmentationValues}
-use Rattle.grammar.specs.Reading.{noMap, noData}
-use Rattle.segment_data.specs.Data.{dataOf}
+use Rattle.segment_map.specs.Map.{mapOf, MapValues, noMap}
+use Rattle.segment_data.specs.Data.{DataValues, noData, dataOf}
 use Rattle.segmentation.specs.Segmentation.{switched}
 use Rattle.grammar.specs.Settings.{segmentationOf}
 use mathlib.Core.Bool.{Bool, true, false}
 use Rattle.bits.specs.Syntax.{flag}
 use Rattle.segment_data.specs.Features.{featuresOf}
+use Rattle.segmentation.proofs.Parts.{flatSegmentation}
 
 -- the settings where segmentation is off, and where both parts were read
-pub off-read : (old : SegmentationParams) (e p : ℕ) → got (switched old (eqb e 1)) p ≡ got (segmentationOf false old (record { enabled = e; map-part = noMap; data-part = noData })) p
+pub off-read : (old : SegmentationParams) (e p : ℕ) → got (switched old (eqb e 1)) p ≡ got (segmentationOf false old (flatSegmentation e noMap noData)) p
 unfolding segmentationOf
 off-read old e p = refl
 
-both : (old : SegmentationParams) (v : SegmentationValues) (m d : Bool) → flag (v .map-part .update-map) ≡ m → flag (v .data-part .update-data) ≡ d
-    → dataOf (mapOf (switched old (flag (v .enabled))) (v .map-part)) (v .data-part) ≡ segmentationOf false old v
+both : (old : SegmentationParams) (e : ℕ) (map : MapValues) (features : DataValues) (m d : Bool) → flag (map .update-map) ≡ m → flag (features .update-data) ≡ d
+    → dataOf (mapOf (switched old (flag e)) map) features ≡ segmentationOf false old (flatSegmentation e map features)
 unfolding segmentationOf mapOf dataOf featuresOf
-both old v true true em ed = rw (em, ed)
-both old v true false em ed = rw (em, ed)
-both old v false true em ed = rw (em, ed)
-both old v false false em ed = rw (em, ed)
+both old e map features true true em ed = rw (em, ed)
+both old e map features true false em ed = rw (em, ed)
+both old e map features false true em ed = rw (em, ed)
+both old e map features false false em ed = rw (em, ed)
 
 pub parts-read : (old seg new : SegmentationParams) (e : ℕ) (m : MapValues) (d : DataValues) (n : Next) (c : Cursor) → seg ≡ mapOf (switched old (eqb e 1)) m → new ≡ dataOf seg d → n ≡ At c
-    → viewNext new n ≡ got (segmentationOf false old (record { enabled = e; map-part = m; data-part = d })) (c .at)
-parts-read old seg new e m d n c es en h = rw (h, en, es, both old (record { enabled = e; map-part = m; data-part = d }) _ _ refl refl)
+    → viewNext new n ≡ got (segmentationOf false old (flatSegmentation e m d)) (c .at)
+parts-read old seg new e m d n c es en h = rw (h, en, es, both old e m d _ _ refl refl)

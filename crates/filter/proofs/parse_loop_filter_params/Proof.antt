@@ -1,5 +1,5 @@
+use Rattle.filter.proofs.Parts.{by-parts}
 use Rattle.bits.proofs.Steps.{reading}
-use Rattle.grammar.specs.Reading.{readLoopFilter}
 use Rattle.loop_deltas.proofs.Readings.{group-left, group-taken, group-tail}
 use Rattle.loop_deltas.proofs.Steps.{settings-stop}
 use Rattle.filter.proofs.Records.{byte-fits, filter-moved, filter-plain}
@@ -14,8 +14,7 @@ enum-known-level : tie.Need-enum-known-level
 enum-known-level c = search needs
 
 returns : tie.Need-returns
-unfolding readLoopFilter
-returns c = search reading
+returns c = (by-parts _ _ _ _ (search reading), λ e h. (search))
 
 read-bits-requires-2 : tie.Need-read-bits-requires-2
 read-bits-requires-2 c κs = search needs
@@ -24,8 +23,7 @@ enum-known-sharpness : tie.Need-enum-known-sharpness
 enum-known-sharpness c = search needs
 
 returns-2 : tie.Need-returns-2
-unfolding readLoopFilter
-returns-2 c = search reading
+returns-2 c = (by-parts _ _ _ _ (search reading), λ e h. (search))
 
 read-bits-requires-3 : tie.Need-read-bits-requires-3
 read-bits-requires-3 c κs = search needs
@@ -34,8 +32,7 @@ enum-known-enabled : tie.Need-enum-known-enabled
 enum-known-enabled c = search needs
 
 returns-3 : tie.Need-returns-3
-unfolding readLoopFilter
-returns-3 c = search reading
+returns-3 c = (by-parts _ _ _ _ (search reading), λ e h. (search))
 
 cast-lf : tie.Need-cast-lf
 cast-lf c = search byte-fits
@@ -53,16 +50,13 @@ enum-known-next : tie.Need-enum-known-next
 enum-known-next c = search needs
 
 returns-4 : tie.Need-returns-4
-unfolding readLoopFilter
-returns-4 c = (search (reading, group-tail, filter-moved), λ e h. (search))
+returns-4 c = (by-parts _ _ _ _ (search (reading, group-tail, filter-moved)), λ e h. (search))
 
 returns-5 : tie.Need-returns-5
-unfolding readLoopFilter
-returns-5 c = search (reading, group-taken, settings-stop)
+returns-5 c = (by-parts _ _ _ _ (search (reading, group-taken, settings-stop)), λ e h. (search))
 
 returns-6 : tie.Need-returns-6
-unfolding readLoopFilter
-returns-6 c = (search (reading, group-left, filter-plain), λ e h. (search))
+returns-6 c = (by-parts _ _ _ _ (search (reading, group-left, filter-plain)), λ e h. (search))
 
 pub parse-loop-filter-params-spec : {M : Type 1} → statement M
 parse-loop-filter-params-spec =

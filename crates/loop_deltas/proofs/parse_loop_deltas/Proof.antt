@@ -1,5 +1,5 @@
 use Rattle.bits.proofs.Steps.{reading}
-use Rattle.grammar.specs.Reading.{readLoopDeltas}
+use Rattle.loop_deltas.specs.LoopDeltas.{readLoopDeltas}
 use Rattle.loop_deltas.proofs.Steps.{refs-step, refs-stop, modes-step, modes-stop}
 use Rattle.loop_deltas.proofs.Readings.{group-left}
 use Rattle.loop_deltas.proofs.Records.{deltas-moved, deltas-kept}

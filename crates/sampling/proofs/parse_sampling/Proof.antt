@@ -1,5 +1,5 @@
 use Rattle.bits.proofs.Steps.{reading}
-use Rattle.grammar.specs.Reading.{readSampling}
+use Rattle.sampling.specs.Sampling.{readSampling}
 use Rattle.sampling.proofs.Records.{sampling-read}
 use borrow.Author.Needs.{needs}
 use Rattle.sampling.proofs.parse_sampling.Statement.{statement}

@@ -1,6 +1,6 @@
 use mathlib.Core.Path.{refl}
 use Rattle.bits.proofs.Steps.{reading}
-use Rattle.grammar.specs.Reading.{readData}
+use Rattle.segment_data.specs.Data.{readData}
 use Rattle.segment_data.proofs.Records.{data-read, data-kept}
 use Rattle.segment_map.proofs.Records.{old-kept}
 use Rattle.segment_map.proofs.Steps.{there-step, there-stop, absent}

@@ -1,6 +1,6 @@
 use mathlib.Core.Path.{refl}
 use Rattle.bits.proofs.Steps.{reading}
-use Rattle.grammar.specs.Reading.{readMap}
+use Rattle.segment_map.specs.Map.{readMap}
 use Rattle.segment_map.proofs.Steps.{probs-step, probs-stop}
 use Rattle.segment_map.proofs.Records.{map-read, map-kept, old-kept}
 use borrow.Author.Needs.{needs}

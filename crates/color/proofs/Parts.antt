@@ -1,0 +1,33 @@
+-- color_config() is read as its parts are that the code reads: depth, colour space, and what comes after it.
+-- Assumes nothing.
+use Prim.Native.Nat.{ℕ}
+use mathlib.Core.Path.{_≡_}
+use mathlib.Core.List.{List}
+use Rattle.bits.specs.Refusal.{the}
+use Rattle.bits.specs.Reader.{Read, Got, read, bind, field, fieldIf, over}
+use Rattle.bits.proofs.Binds.{bind-assoc}
+use Rattle.grammar.specs.Tables.{ColorValues, deep}
+use Rattle.grammar.specs.Reading.{readColor}
+use Rattle.sampling.specs.Sampling.{SamplingValues, readSampling}
+
+abbrev pub flatColor : ℕ → ℕ → SamplingValues → ColorValues
+flatColor d c v =
+    record {
+      ten-or-twelve-bit = d;
+      color-space = c;
+      color-range = v .color-range;
+      subsampling-x = v .subsampling-x;
+      subsampling-y = v .subsampling-y;
+      reserved-zero = v .reserved-zero;
+    }
+
+abbrev inParts : ℕ → List ℕ → ℕ → Read ColorValues
+inParts profile s p =
+    bind (fieldIf (deep profile) (the "ten_or_twelve_bit") 1 s p) λ d p.
+    bind (field (the "color_space") 3 s p) λ c p.
+    bind (readSampling profile c s p) λ v p.
+    read (flatColor d c v) p
+
+pub by-parts : {D : Type 0} (f : ColorValues → D) (profile : ℕ) (s : List ℕ) (p : ℕ) (y : Got D) → y ≡ over f (inParts profile s p) → y ≡ over f (readColor profile s p)
+unfolding readColor readSampling
+by-parts f profile s p y h = simp bind-assoc at h

@@ -1,0 +1,42 @@
+-- segmentation_params() is read as its parts are that the code reads: the map's and the features'.
+-- Assumes nothing.
+use Prim.Native.Nat.{ℕ}
+use mathlib.Core.Path.{_≡_}
+use mathlib.Core.List.{List}
+use Rattle.bits.specs.Refusal.{the}
+use Rattle.bits.specs.Syntax.{flag}
+use Rattle.bits.specs.Reader.{Read, Got, read, bind, field, fieldIf, groupIf, over}
+use Rattle.bits.proofs.Binds.{bind-assoc, bind-same, split}
+use Rattle.grammar.specs.Tables.{SegmentationValues}
+use Rattle.grammar.specs.Reading.{readSegmentation}
+use Rattle.segment_map.specs.Map.{MapValues, noMap, readMap}
+use Rattle.segment_data.specs.Data.{DataValues, noData, readData}
+
+abbrev pub flatSegmentation : ℕ → MapValues → DataValues → SegmentationValues
+flatSegmentation e m d =
+    record {
+      enabled = e;
+      update-map = m .update-map;
+      tree-probs = m .tree-probs;
+      temporal-update = m .temporal-update;
+      pred-probs = m .pred-probs;
+      update-data = d .update-data;
+      abs-or-delta-update = d .abs-or-delta-update;
+      features = d .features;
+    }
+
+abbrev inParts : List ℕ → ℕ → Read SegmentationValues
+inParts s p =
+    bind (field (the "segmentation_enabled") 1 s p) λ e p.
+    bind (groupIf (flag e) noMap readMap s p) λ m p.
+    bind (groupIf (flag e) noData readData s p) λ d p.
+    read (flatSegmentation e m d) p
+
+in-parts : (s : List ℕ) (p : ℕ) → readSegmentation s p ≡ inParts s p
+unfolding readSegmentation readMap readData groupIf fieldIf
+in-parts s p =
+    bind-same (field (the "segmentation_enabled") 1 s p) _ _ λ e p.
+    split (flag e) (λ on. rw on (simp bind-assoc)) (λ off. rw off)
+
+pub by-parts : {D : Type 0} (f : SegmentationValues → D) (s : List ℕ) (p : ℕ) (y : Got D) → y ≡ over f (inParts s p) → y ≡ over f (readSegmentation s p)
+by-parts f s p y h = rw (in-parts s p) h
