@@ -12,7 +12,6 @@ use lib.ListN.{length, length-append}
 use lib.Pow.{pow-pos}
 use borrow.Author.Tests.{eqb-true}
 use Rattle.bits.specs.Bit.{Stands, spell}
-use Rattle.bits.specs.Refusal.{Name}
 use Rattle.bits.specs.Syntax.{Field, fld, pick, bare, optional, flat, size, Ranged}
 use Rattle.bits.specs.Fault.{Fits, Reason, Fault, cut, wrong, Stops}
 use Rattle.bits.specs.Reader.{Read, read, stopped}
@@ -26,10 +25,6 @@ flat-append (f ∷ fs) gs = rw (flat-append fs gs, append-assoc)
 pub size-append : (fs gs : List Field) → size (fs ++ gs) ≡ size fs + size gs
 size-append [] gs = rw zero-add
 size-append (f ∷ fs) gs = rw (size-append fs gs, add-assoc)
-
--- bounds of a spelling's bits, put together as the spelling is
-pub size-join : (fs gs : List Field) (m n : ℕ) → size fs ≤ m → size gs ≤ n → size (fs ++ gs) ≤ m + n
-size-join fs gs m n h k = omega (arith, size-append fs gs)
 
 -- of fields that aren't there
 pub bare-size : (fs : List Field) → size (bare fs) ≡ 0

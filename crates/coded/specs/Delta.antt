@@ -15,11 +15,10 @@ use Rattle.coded.specs.declared.DeltaRead.the-variants.{Value, Short, To
 use Rattle.grammar.specs.Tables.{DeltaValues}
 use Rattle.grammar.specs.Reading.{readDelta}
 
--- record
+-- the code's answer
 unfoldable pub deltaOf : DeltaValues → Delta
 deltaOf v = record { coded = flag (v .coded); value = signed (v .magnitude) (flag (v .sign)) }
 
--- the code's answer
 abbrev pub viewDelta : DeltaRead → Got Delta
 viewDelta (Value d c) = got d (c .at)
 viewDelta Short = refused PastEnd

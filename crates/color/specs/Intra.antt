@@ -17,7 +17,7 @@ use Rattle.color.specs.declared.Color.{Color}
 abbrev pub colored : ℕ → Bool
 colored profile = ltb 0 profile
 
--- record: profile 0 has depth 8, colour space 1, range 0 and both subsamplings
+-- profile 0 has depth 8, colour space 1, range 0 and both subsamplings
 abbrev pub fixedColor : Color
 fixedColor =
     record {

@@ -15,11 +15,11 @@ use Rattle.tail.specs.declared.Settings.{Settings}
 use Rattle.tail.specs.declared.Closing.{Closing}
 use Rattle.grammar.specs.Record.{lengthOf}
 
--- record
+-- the code's answer: the type of a frame that is a key frame or not
 abbrev pub frameTypeOf : Bool → FrameType
 frameTypeOf key = pick key KeyFrame InterFrame
 
--- the code's answer: an intra or error-resilient frame
+-- an intra or error-resilient frame
 abbrev pub independent : Lead → Bool
 independent l = l .traits .key || (l .shot .kind .«intra_only» || l .traits .«error_resilient_mode»)
 

@@ -10,7 +10,7 @@ use Rattle.settings.specs.declared.size.FrameSize.{FrameSize}
 use Rattle.traits.specs.Traits.{TraitsValues, readTraits, traitsOf}
 use Rattle.traits.specs.Context.{ContextValues, readContext, contextOf}
 use Rattle.color.specs.declared.Color.{Color}
-use Rattle.lead.specs.Shot.{ShotValues, isIntraOnly, readShot, shotSize, shotOf}
+use Rattle.lead.specs.Shot.{ShotValues, isIntraOnly, readShot, shotOf}
 use Rattle.lead.specs.declared.Lead.{Lead}
 use Rattle.lead.specs.declared.LeadRead.{LeadRead}
 use Rattle.lead.specs.declared.LeadRead.the-variants.{Value, Refused}
@@ -30,16 +30,11 @@ isShown t = flag (t .show-frame)
 abbrev pub isResilient : TraitsValues → Bool
 isResilient t = flag (t .error-resilient-mode)
 
--- record: the frame's size, from the remembered sizes
-abbrev pub frameSize : List FrameSize → LeadValues → FrameSize
-frameSize slots v = shotSize (isKey (v .traits)) slots (v .shot)
-
 -- an intra or error-resilient frame owes nothing to earlier ones: setup_past_independence()
 abbrev pub isIndependent : LeadValues → Bool
 isIndependent v = isKey (v .traits) || (isIntraOnly (v .shot) || isResilient (v .traits))
 
 -- reading
-
 unfoldable pub readLead : ℕ → Reader LeadValues
 readLead profile = do
   t ← readTraits

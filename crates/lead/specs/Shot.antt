@@ -9,9 +9,6 @@ use Rattle.settings.specs.declared.size.FrameSize.{FrameSize}
 use Rattle.traits.specs.Kind.{KindValues, noKind, readKind, kindOf}
 use Rattle.traits.specs.declared.Kind.{Kind}
 use Rattle.color.specs.declared.Color.{Color}
-use Rattle.grammar.specs.Header.{sizeOf}
-use Rattle.refs.specs.Refs.{refsOf}
-use Rattle.size_with_refs.specs.SizeWithRefs.{foundSize}
 use Rattle.picture.specs.declared.Picture.{Picture}
 use Rattle.picture.specs.Key.{KeyValues, noKey, readKey, keyOf}
 use Rattle.picture.specs.IntraOnly.{IntraOnlyValues, noIntraOnly, readIntraOnly, intraOnlyOf}
@@ -29,17 +26,7 @@ pub record ShotValues : Type 0 where
 abbrev pub isIntraOnly : ShotValues → Bool
 isIntraOnly v = flag (v .kind .intra-only)
 
--- record: the frame's size, from the remembered sizes
-abbrev pub shotSize : Bool → List FrameSize → ShotValues → FrameSize
-shotSize key slots v =
-    pick key (sizeOf (v .key .sizes .size))
-    (pick (isIntraOnly v) (sizeOf (v .intra-only .sizes .size))
-    (foundSize slots (refsOf (v .inter .sources .refs)) (v .inter .sizes)))
-
 -- reading
-abbrev pub noShot : ShotValues
-noShot = record { key = noKey; kind = noKind; intra-only = noIntraOnly; inter = noInter }
-
 unfoldable pub readShot : ℕ → Bool → Bool → Bool → Reader ShotValues
 readShot profile key shown resilient = do
   k ← groupIf key noKey (readKey profile)

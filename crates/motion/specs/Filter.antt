@@ -15,10 +15,6 @@ pub record FilterValues : Type 0 where
   pub is-filter-switchable : ℕ
   pub raw-interpolation-filter : ℕ
 
--- record
-unfoldable pub filterOf : FilterValues → InterpolationFilter
-filterOf v = interpolationOf (v .is-filter-switchable) (v .raw-interpolation-filter)
-
 -- reading
 abbrev pub noFilter : FilterValues
 noFilter = record { is-filter-switchable = 0; raw-interpolation-filter = 0 }
@@ -30,6 +26,9 @@ readFilter = do
   give (record { is-filter-switchable = w; raw-interpolation-filter = n })
 
 -- the code's answer
+unfoldable pub filterOf : FilterValues → InterpolationFilter
+filterOf v = interpolationOf (v .is-filter-switchable) (v .raw-interpolation-filter)
+
 abbrev pub viewFilter : FilterRead → Got InterpolationFilter
 viewFilter (Value a c) = got a (c .at)
 viewFilter Short = refused PastEnd

@@ -14,14 +14,13 @@ use Rattle.refs.specs.declared.RefsRead.the-variants.{Value as Three, Sh
 use Rattle.grammar.specs.Tables.{RefValues, RefsValues}
 use Rattle.grammar.specs.Reading.{readRef}
 
--- record
+-- the code's answer
 unfoldable pub refOf : RefValues → Ref
 refOf v = record { idx = v .ref-frame-idx; «sign_bias» = v .ref-frame-sign-bias }
 
 unfoldable pub refsOf : RefsValues → Refs
 refsOf v = record { last = refOf (v .last); golden = refOf (v .golden); altref = refOf (v .altref) }
 
--- the code's answer
 abbrev pub viewRef : RefRead → Got Ref
 viewRef (Value a c) = got a (c .at)
 viewRef Short = refused PastEnd

@@ -23,7 +23,7 @@ pub record SizeWithRefsValues : Type 0 where
   pub size : SizeValues
   pub render : RenderValues
 
--- record: the size that slot i remembers
+-- the size that slot i remembers
 abbrev pub slotSize : List FrameSize → ℕ → FrameSize
 slotSize slots i = getD slots i noSize
 

@@ -24,7 +24,7 @@ pub record SettingsValues : Type 0 where
   pub quantizer : QuantizerValues
   pub segmentation : SegmentationValues
 
--- record: what an independent frame starts from, and any other: setup_past_independence()
+-- what an independent frame starts from, and any other: setup_past_independence()
 abbrev pub startingFilter : Bool → LoopFilterParams → LoopFilterParams
 startingFilter independent lf = pick independent (resetFilter lf) lf
 

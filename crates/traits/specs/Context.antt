@@ -15,14 +15,11 @@ pub record ContextValues : Type 0 where
   pub frame-parallel-decoding-mode : ℕ
   pub frame-context-idx : ℕ
 
--- record: an error-resilient frame is decoded in parallel
+-- an error-resilient frame is decoded in parallel
 abbrev pub parallelOf : Bool → ℕ → Bool
 parallelOf resilient n = pick resilient true (flag n)
 
 -- reading
-abbrev pub noContext : ContextValues
-noContext = record { refresh-frame-context = 0; frame-parallel-decoding-mode = 0; frame-context-idx = 0 }
-
 unfoldable pub readContext : Bool → Reader ContextValues
 readContext resilient = do
   r ← fieldIf (not resilient) (the "refresh_frame_context") 1

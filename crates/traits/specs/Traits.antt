@@ -16,9 +16,6 @@ pub record TraitsValues : Type 0 where
   pub error-resilient-mode : ℕ
 
 -- reading
-abbrev pub noTraits : TraitsValues
-noTraits = record { frame-type = 0; show-frame = 0; error-resilient-mode = 0 }
-
 unfoldable pub readTraits : Reader TraitsValues
 readTraits = do
   t ← field (the "frame_type") 1
