@@ -54,7 +54,8 @@ isIndependent v = isIntra v || flag (v .error-resilient-mode)
 abbrev pub lengthOf : ℕ → ℕ
 lengthOf n = (n + 7) / 8
 
--- a frame's record, from its profile and the length of its header in bytes; kept from the source, an independent frame has no sign bias
+-- a frame's record, from its profile and the length of its header in bytes: a value that isn't there is 0, as in the default header, whose filter is the eight-tap one.
+-- Kept from the source, an independent frame has no sign bias
 unfoldable pub frameOf : ReaderState → ℕ → FrameValues → ℕ → Header
 frameOf st profile v bytes =
     let c = v .color in
