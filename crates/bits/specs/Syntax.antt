@@ -62,12 +62,12 @@ abbrev pub flat : List Field → List ℕ
 flat [] = []
 flat (f ∷ fs) = spell (f .width) (f .number) ++ flat fs
 
--- how many bits
-abbrev pub size : List Field → ℕ
-size [] = 0
-size (f ∷ fs) = f .width + size fs
-
 -- each number is in its field's range and is the one demanded
 abbrev pub Ranged : List Field → Type 0
 Ranged [] = Unit
 Ranged (f ∷ fs) = ((f .number < 2 ^ (f .width)) × Meets (f .demand) (f .number)) × Ranged fs
+
+-- refusals: how many bits the fields have
+abbrev pub size : List Field → ℕ
+size [] = 0
+size (f ∷ fs) = f .width + size fs

@@ -4,8 +4,8 @@ use Prim.Native.Nat.{ℕ, _+_, _/_}
 use mathlib.Core.Bool.{Bool, true, false, _&&_, _||_}
 use mathlib.Core.List.{List, [], _∷_}
 use lib.Dec.{eqb}
-use lib.ListN.{replicate}
-use Rattle.bits.specs.Syntax.{flag, pick, size}
+use lib.ListN.{length, replicate}
+use Rattle.bits.specs.Syntax.{flag, pick, flat}
 use Rattle.enums.specs.Profile.{profileOf}
 use Rattle.enums.specs.ColorSpace.{colorSpaceOf}
 use Rattle.enums.specs.ColorRange.{colorRangeOf}
@@ -106,7 +106,7 @@ unfoldable pub headerOf : ReaderState → HeaderValues → Header
 headerOf st v =
     let profile = profileNumber v in
     pick (showsExisting v) (showingHeader (profileOf profile) (v .frame-to-show-map-idx))
-    (frameOf st profile (v .frame) (lengthOf (size (headerFields (st .«reference_frame_sz») v))))
+    (frameOf st profile (v .frame) (lengthOf (length (flat (headerFields (st .«reference_frame_sz») v)))))
 
 -- the state holds what the frame's record h has, but that an intra-only frame of profile 0 leaves the range as it was
 unfoldable pub stateFrom : ReaderState → ℕ → FrameValues → Header → ReaderState

@@ -71,10 +71,15 @@ flatFrame l g c =
       header-size-in-bytes = c .header-size-in-bytes;
     }
 
+-- written out where `widthFrom` would do, since rewriting doesn't look into it
 abbrev pub inParts : List FrameSize → ℕ → List ℕ → ℕ → Read FrameValues
 inParts slots profile s p =
-    bind (readLead profile s p) λ l q. bind (readSettings s q) λ g r.
-    bind (readClosing (sizeFrom slots (byKind l noRefs noRefs (l .shot .inter .sources .refs)) (byKind l noFound noFound (l .shot .inter .sizes .found-ref)) (byKind l (l .shot .key .sizes .size) (l .shot .intra-only .sizes .size) (l .shot .inter .sizes .size)) .width) s r) λ c t.
+    bind (readLead profile s p) λ l q.
+    bind (readSettings s q) λ g r.
+    bind (readClosing (sizeFrom slots
+    (byKind l noRefs noRefs (l .shot .inter .sources .refs))
+    (byKind l noFound noFound (l .shot .inter .sizes .found-ref))
+    (byKind l (l .shot .key .sizes .size) (l .shot .intra-only .sizes .size) (l .shot .inter .sizes .size)) .width) s r) λ c t.
     read (flatFrame l g c) t
 
 pub in-parts : (slots : List FrameSize) (profile : ℕ) (s : List ℕ) (p : ℕ) → readFrame slots profile s p ≡ inParts slots profile s p
@@ -103,6 +108,7 @@ flatHeader o f =
       frame = f;
     }
 
+-- the opening is read first, and then a frame that isn't shown from a slot
 pub opening-first : (slots : List FrameSize) (s : List ℕ) (p : ℕ)
     → readHeader slots s p
     ≡ bind (readOpening s p) (λ o q. bind (groupIf (not (flag (o .show-existing-frame))) noFrame (readFrame slots (profileNumber (o .profile))) s q) (λ f t. read (flatHeader o f) t))

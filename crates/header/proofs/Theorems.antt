@@ -10,7 +10,7 @@ use lib.ListN.{length}
 use Rattle.bits.specs.declared.Refusal.{Refusal}
 use Rattle.bits.specs.declared.Refusal.the-variants.{PastEnd}
 use Rattle.bits.specs.Refusal.{Mark, markRefusal}
-use Rattle.bits.specs.Syntax.{flat, size, Ranged}
+use Rattle.bits.specs.Syntax.{flat, Ranged}
 use Rattle.bits.specs.Fault.{Fits, CutOff, Unmarked}
 use Rattle.bits.specs.Reader.{Read, read, stopped, over, refused}
 use Rattle.bits.proofs.Begins.{begins}
@@ -103,6 +103,6 @@ unfolding headerOf
 length-shown st v h = rw h
 
 pub length-stated : (st : ReaderState) (v : HeaderValues) → showsExisting v ≡ false
-    → headerOf st v .«uncompressed_header_size_in_bytes» ≡ lengthOf (size (headerFields (st .«reference_frame_sz») v))
+    → headerOf st v .«uncompressed_header_size_in_bytes» ≡ lengthOf (length (flat (headerFields (st .«reference_frame_sz») v)))
 unfolding headerOf frameOf
 length-stated st v h = rw h

@@ -6,8 +6,10 @@ use mathlib.Core.Bool.{false, not}
 use mathlib.Core.List.{List}
 use native.Mathlib.Omega.{arith}
 use lib.Dec.{eqb}
-use Rattle.bits.specs.Syntax.{flag, size, pick}
+use lib.ListN.{length}
+use Rattle.bits.specs.Syntax.{flag, pick, flat}
 use Rattle.bits.specs.Reader.{read, bind, groupIf}
+use Rattle.bits.proofs.Fields.{length-flat}
 use Rattle.bits.proofs.Binds.{split}
 use Rattle.settings.specs.declared.size.FrameSize.{FrameSize}
 use Rattle.types.specs.declared.state.ReaderState.{ReaderState}
@@ -60,8 +62,8 @@ module _ (s : List ℕ) (st : ReaderState) where
   abbrev answer : HeaderValues → ℕ → HeaderRead
   answer v p = accepted (headerOf st v) (stateAfter st v)
 
-  length-same : (v : HeaderValues) (t : ℕ) → readHeader slots s 0 ≡ read v t → cutLength t ≡ lengthOf (size (headerFields slots v))
-  length-same v t e = let m = header-reads slots .sound s 0 v t e in omega (arith, m .2, header-size slots v)
+  length-same : (v : HeaderValues) (t : ℕ) → readHeader slots s 0 ≡ read v t → cutLength t ≡ lengthOf (length (flat (headerFields slots v)))
+  length-same v t e = let m = header-reads slots .sound s 0 v t e in omega (arith, m .2, header-size slots v, length-flat (headerFields slots v))
 
   module _ (o : OpeningValues) (p : ℕ) (eo : readOpening s 0 ≡ read o p) where
     abbrev profile : ℕ
