@@ -3,7 +3,7 @@
 
 Of a file of specs/, imports, comments and empty lines aren't counted. A comment at the margin that begins with one of
 WORDS says what the lines below it are for, down to the next such comment: `spelling` which bits are a header, `record`
-what is answered of its values, `refusals` which number a refused one gets. What stands under `reading` and `the code's
+what is answered of its values, `refusals` which number a refused one gets, and what is demanded of an answer. What stands under `reading` and `the code's
 answer` is tied to these by theorems and is not counted; `numbers` and `segments` are of calls that read no header.
 
 Usage: lines.py [--text]: with --text, the definitions themselves are printed that say which bits are a header, what is
@@ -22,7 +22,7 @@ PROVED = ("reading", "the code's answer")
 HEADER = [
     ("spelling", "bits/Bit bits/Refusal bits/Syntax bits/Many grammar/Tables grammar/Header"),
     ("record", "grammar/Settings grammar/Record enums/* settings/* types/Header slots/* header/Answer"),
-    ("refusals", "bits/Fault verdict/*"),
+    ("refusals", "bits/Fault verdict/* header/Demand"),
 ]
 OTHERS = [
     ("a fresh state", "types/ReaderState"),
@@ -74,7 +74,7 @@ def main():
             header += believed(path, word)
     print(f"which bits are a header: {header['spelling']}")
     print(f"its record and the state after: {header['record']}")
-    print(f"the number of a refusal: {header['refusals']}")
+    print(f"the number of a refusal, and the demand: {header['refusals']}")
     print(f"the enums' numbers, a segment's features: {header['numbers'] + header['segments']}")
     for part, patterns in OTHERS:
         count = sum((believed(path, "") for path in files(patterns)), collections.Counter())

@@ -1,22 +1,15 @@
--- The first refusal among verdicts, and when a header's verdict is which.
+-- The first refusal among verdicts.
 -- Assumes nothing.
 use Prim.Native.Nat.{ℕ, zero, suc, _+_, _<_, _≤_}
-use mathlib.Core.Path.{_≡_, refl, sym, _∙_}
-use mathlib.Core.Logic.{_↔_, ⊎-elim}
-use mathlib.Core.List.{List}
+use mathlib.Core.Path.{_≡_, refl}
+use mathlib.Core.Logic.{⊎-elim}
 use native.Mathlib.Nat.{eq-or-lt-of-le}
 use native.Mathlib.Omega.{arith}
 use Rattle.bits.specs.declared.Refusal.{Refusal}
-use Rattle.bits.specs.declared.Refusal.the-variants.{FrameMarker, SyncCode, PastEnd}
-use Rattle.bits.specs.Refusal.{frameMarker, syncCode}
-use Rattle.types.specs.declared.state.ReaderState.{ReaderState}
 use Rattle.index.proofs.First.{below}
 use Rattle.verdict.specs.declared.Verdict.{Verdict}
 use Rattle.verdict.specs.declared.Verdict.the-variants.{Accepted, Refused}
-use Rattle.header.specs.Answer.{parsed}
-use Rattle.header.proofs.Theorems.{six-exactly, mark-said}
 use Rattle.chunk.specs.Frames.{Fault, none, fault, faultAt, firstFault}
-use Rattle.chunk.specs.Table.{AtFault}
 
 -- the verdicts from i on, up to j, are accepted
 abbrev pub Good : (ℕ → Verdict) → ℕ → ℕ → Type 0
@@ -54,10 +47,3 @@ module _ (v : ℕ → Verdict) where
       ⊎-elim (λ h. differ k e (y .2 k (x .0) h) (x .3))
       (λ h. ⊎-elim (λ q. let w : v k ≡ Refused d = rw q at (y .3) in let z : e ≡ d = cc in cc) (λ m. differ l d (x .2 l (y .0) m) (y .3)) (eq-or-lt-of-le {n = l} {m = k} h))
       (below k l)
-
-module _ (s : List ℕ) (st : ReaderState) where
-  -- a header is refused exactly if it is at fault
-  pub refused-exactly : (e : Refusal) → (parsed s st .verdict ≡ Refused e) ↔ AtFault (st .«reference_frame_sz») s e
-  refused-exactly FrameMarker = mark-said s st frameMarker
-  refused-exactly SyncCode = mark-said s st syncCode
-  refused-exactly PastEnd = six-exactly s st

@@ -1,12 +1,12 @@
 -- Document 01's table: each answer is given exactly when its line says so, and a refusal changes nothing.
 -- Assumes nothing.
-use Prim.Native.Nat.{ℕ, _+_, _<_}
+use Prim.Native.Nat.{ℕ}
 use mathlib.Core.Path.{_≡_, refl, sym, ap, _∙_}
 use mathlib.Core.Logic.{_↔_}
 use mathlib.Core.List.{List}
 use native.Mathlib.Omega.{arith}
 use Rattle.types.specs.declared.state.ReaderState.{ReaderState}
-use Rattle.header.proofs.Theorems.{accepted-exactly}
+use Rattle.header.proofs.Theorems.{accepted-exactly, refused-exactly}
 use Rattle.index.specs.declared.Answer.{Answer as SplitAnswer}
 use Rattle.index.specs.declared.Answer.the-variants as split
 use Rattle.index.specs.Split.{splitOf}
@@ -17,9 +17,9 @@ use Rattle.chunk_read.specs.declared.ChunkRead.{ChunkRead}
 use Rattle.chunk.specs.Frames.{stateBefore, frameRead, Fault, none, fault, firstFault}
 use Rattle.chunk_read.specs.Answer.{chunkNumber, refusedChunk}
 use Rattle.chunk.specs.Answer.{acceptedChunk, answered, chunkBy, chunkOf}
-use Rattle.chunk.specs.Table.{frameOf, EachSpelled, FirstFault, When}
+use Rattle.chunk.specs.Table.{frameOf, EachSpelled, When}
 use Rattle.chunk.proofs.Walk.{verdictAt, by-split}
-use Rattle.chunk.proofs.Fault.{Good, Found, found, one-found, refused-exactly}
+use Rattle.chunk.proofs.Fault.{Good, Found, found, one-found}
 
 module _ (s : List ℕ) (st : ReaderState) where
   before : ℕ → ReaderState

@@ -1,6 +1,6 @@
 -- Reading headers one after the other, as the loop does it.
 -- Assumes nothing.
-use Prim.Native.Nat.{ℕ, zero, suc, _+_, _-_, _<_, _≤_}
+use Prim.Native.Nat.{ℕ, suc, _+_, _-_, _<_, _≤_}
 use mathlib.Core.Path.{_≡_, refl, sym, ap, _∙_}
 use mathlib.Core.List.{List}
 use native.Mathlib.Nat.{sub-zero}
@@ -21,7 +21,6 @@ use Rattle.index.specs.declared.Split.{Split}
 use Rattle.index.specs.Split.{filled, splitOf}
 use Rattle.index.proofs.Tiles.{count-range, frame-inside}
 use Rattle.chunk_read.specs.declared.Answer.the-variants as answer
-use Rattle.chunk_read.specs.declared.ChunkRead.{ChunkRead}
 use Rattle.chunk.specs.Frames.{stateBefore, frameRead, none, fault, firstFault}
 use Rattle.chunk_read.specs.Answer.{refusedChunk}
 use Rattle.chunk.specs.Answer.{acceptedChunk, answered, chunkBy, chunkOf}

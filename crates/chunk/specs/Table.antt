@@ -3,19 +3,15 @@
 use Prim.Native.Nat.{ℕ, _<_}
 use mathlib.Core.List.{List}
 use Rattle.bits.specs.declared.Refusal.{Refusal}
-use Rattle.bits.specs.declared.Refusal.the-variants.{FrameMarker, SyncCode, PastEnd}
-use Rattle.bits.specs.Refusal.{frameMarker, syncCode}
-use Rattle.bits.specs.Syntax.{Ranged}
-use Rattle.bits.specs.Fault.{CutOff, Unmarked}
 use Rattle.settings.specs.declared.size.FrameSize.{FrameSize}
 use Rattle.types.specs.declared.state.ReaderState.{ReaderState}
-use Rattle.grammar.specs.Header.{HeaderValues, headerFields, Spelled}
 use Rattle.index.specs.declared.Answer.the-variants as split
 use Rattle.index.specs.Split.{splitOf}
 use Rattle.index.specs.Table.{When as SplitWhen}
 use Rattle.chunk_read.specs.declared.Answer.{Answer}
 use Rattle.chunk_read.specs.declared.Answer.the-variants as answer
 use Rattle.chunk.specs.Frames.{frameBytes, stateBefore}
+use Rattle.header.specs.Demand.{IsSpelled, AtFault}
 
 -- frame i's bytes, and the sizes that are remembered before it
 abbrev pub frameOf : List ℕ → ℕ → List ℕ
@@ -23,19 +19,6 @@ frameOf s i = frameBytes s (splitOf s) i
 
 abbrev pub sizesBefore : List ℕ → ReaderState → ℕ → List FrameSize
 sizesBefore s st i = stateBefore s (splitOf s) st i .«reference_frame_sz»
-
--- some values are spelled there
-abbrev pub IsSpelled : List FrameSize → List ℕ → Type 0
-IsSpelled slots s = (v : HeaderValues) × Spelled slots s v
-
--- the header is at fault: 4 and 5 for a mark with another number, 6 for a field that runs past the last byte, the fields before it being well spelled
-abbrev pub Stops : List FrameSize → List ℕ → Refusal → HeaderValues → Type 0
-Stops slots s FrameMarker v = Unmarked s 0 (headerFields slots v) frameMarker
-Stops slots s SyncCode v = Unmarked s 0 (headerFields slots v) syncCode
-Stops slots s PastEnd v = CutOff s 0 (headerFields slots v)
-
-abbrev pub AtFault : List FrameSize → List ℕ → Refusal → Type 0
-AtFault slots s e = (v : HeaderValues) × Ranged (headerFields slots v) × Stops slots s e v
 
 -- the headers of the first n frames are spelled, each under the sizes that the frames before it left
 abbrev pub EachSpelled : List ℕ → ReaderState → ℕ → Type 0

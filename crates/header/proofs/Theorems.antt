@@ -1,17 +1,17 @@
 -- The theorems on headers, for every frame and every state.
 -- Assumes nothing.
 use Prim.Native.Nat.{ℕ, _<_, _^_}
-use mathlib.Core.Path.{_≡_, refl, ap}
+use mathlib.Core.Path.{_≡_, refl, sym, ap, _∙_}
 use mathlib.Core.Bool.{true, false}
 use mathlib.Core.Logic.{_↔_}
 use mathlib.Core.List.{List}
 use native.Mathlib.Omega.{arith}
 use lib.ListN.{length}
 use Rattle.bits.specs.declared.Refusal.{Refusal}
-use Rattle.bits.specs.declared.Refusal.the-variants.{PastEnd}
-use Rattle.bits.specs.Refusal.{Mark, markRefusal}
-use Rattle.bits.specs.Syntax.{flat, Ranged}
-use Rattle.bits.specs.Fault.{Fits, CutOff, Unmarked}
+use Rattle.bits.specs.declared.Refusal.the-variants.{FrameMarker, SyncCode, PastEnd}
+use Rattle.bits.specs.Refusal.{frameMarker, syncCode}
+use Rattle.bits.specs.Syntax.{flat}
+use Rattle.bits.specs.Fault.{Fits}
 use Rattle.bits.specs.Reader.{Read, read, stopped, over, refused}
 use Rattle.bits.proofs.Begins.{begins}
 use Rattle.bits.proofs.Fields.{length-flat}
@@ -19,13 +19,15 @@ use Rattle.bits.proofs.Laws.{unique}
 use Rattle.bits.proofs.Told.{past-end-exactly, mark-exactly}
 use Rattle.settings.specs.declared.size.FrameSize.{FrameSize}
 use Rattle.types.specs.declared.state.ReaderState.{ReaderState}
+use Rattle.verdict.specs.declared.Verdict.{Verdict}
 use Rattle.verdict.specs.declared.Verdict.the-variants.{Accepted, Refused}
-use Rattle.grammar.specs.Record.{lengthOf, frameOf, headerOf, stateAfter}
 use Rattle.grammar.specs.Header.{HeaderValues, showsExisting, headerFields, Spelled}
+use Rattle.grammar.specs.Record.{lengthOf, frameOf, headerOf, stateAfter}
 use Rattle.grammar.specs.Reading.{readHeader}
-use Rattle.header.specs.Answer.{accepted, refusedWith, outcome, parsed}
-use Rattle.header.specs.declared.HeaderRead.{HeaderRead}
 use Rattle.grammar.proofs.Header.{header-reads, header-size}
+use Rattle.header.specs.Answer.{accepted, refusedWith, outcome, parsed}
+use Rattle.header.specs.Demand.{IsSpelled, AtFault, Demanded}
+use Rattle.header.specs.declared.HeaderRead.{HeaderRead}
 
 module _ (s : List ℕ) (slots : List FrameSize) (v : HeaderValues) where
   short-enough : length (flat (headerFields slots v)) < 2 ^ 64
@@ -42,60 +44,67 @@ pub one-set : (s : List ℕ) (slots : List FrameSize) (v w : HeaderValues) → S
 one-set s slots v w h k = unique (header-reads slots) s 0 v w (spelled-fits s slots v h) (spelled-fits s slots w k)
 
 module _ (s : List ℕ) (st : ReaderState) where
+  abbrev slots : List FrameSize
+  slots = st .«reference_frame_sz»
+
+  abbrev answer : HeaderValues → ℕ → HeaderRead
+  answer v p = accepted (headerOf st v) (stateAfter st v)
+
   -- the record and the state after are those of the values that fit
-  pub accepts : (v : HeaderValues) → Spelled (st .«reference_frame_sz») s v → parsed s st ≡ accepted (headerOf st v) (stateAfter st v)
+  pub accepts : (v : HeaderValues) → Spelled slots s v → parsed s st ≡ accepted (headerOf st v) (stateAfter st v)
   unfolding parsed
-  accepts v h = rw (header-reads (st .«reference_frame_sz») .complete s 0 v tt (spelled-fits s (st .«reference_frame_sz») v h))
+  accepts v h = rw (header-reads slots .complete s 0 v tt (spelled-fits s slots v h))
 
   -- accepted exactly if the frame's bits begin with a spelling of some field values under the remembered sizes
-  pub accepted-exactly : (parsed s st .verdict ≡ Accepted) ↔ ((v : HeaderValues) × Spelled (st .«reference_frame_sz») s v)
+  pub accepted-exactly : (parsed s st .verdict ≡ Accepted) ↔ IsSpelled slots s
   unfolding parsed
-  accepted-exactly = (λ h. to (readHeader (st .«reference_frame_sz») s 0) refl h, λ h. ap (λ (r : HeaderRead). r .verdict) (accepts (h .0) (h .1)))
+  accepted-exactly = (λ h. to (readHeader slots s 0) refl h, λ h. ap (λ (r : HeaderRead). r .verdict) (accepts (h .0) (h .1)))
     where
-      to : (m : Read HeaderValues) → readHeader (st .«reference_frame_sz») s 0 ≡ m → outcome st (λ v p. accepted (headerOf st v) (stateAfter st v)) m .verdict ≡ Accepted
-          → (v : HeaderValues) × Spelled (st .«reference_frame_sz») s v
-      to (read v p) e h =
-          let o = header-reads (st .«reference_frame_sz») .sound s 0 v p e in
-          (v, fits-spelled s (st .«reference_frame_sz») v (o .1))
+      to : (m : Read HeaderValues) → readHeader slots s 0 ≡ m → outcome st answer m .verdict ≡ Accepted → IsSpelled slots s
+      to (read v p) e h = (v, fits-spelled s slots v (header-reads slots .sound s 0 v p e .1))
       to (stopped w) e h = let z : _≡_ {A = ℕ} 0 1 = cc in absurd (omega arith)
 
   -- a refusal has the default header, and the state as it was
   pub refused-whole : (e : Refusal) → parsed s st .verdict ≡ Refused e → parsed s st ≡ refusedWith st e
   unfolding parsed
-  refused-whole e h = go (readHeader (st .«reference_frame_sz») s 0) h
+  refused-whole e h = go (readHeader slots s 0) h
     where
-      go : (m : Read HeaderValues) → outcome st (λ v p. accepted (headerOf st v) (stateAfter st v)) m .verdict ≡ Refused e → outcome st (λ v p. accepted (headerOf st v) (stateAfter st v)) m ≡ refusedWith st e
+      go : (m : Read HeaderValues) → outcome st answer m .verdict ≡ Refused e → outcome st answer m ≡ refusedWith st e
       go (read v p) h = let z : _≡_ {A = ℕ} 0 1 = cc in absurd (omega arith)
       go (stopped w) h = let we : w .refusal ≡ e = cc in rw we
 
   -- the code's refusal is the reading's
-  told : (e : Refusal) → (parsed s st .verdict ≡ Refused e) ↔ (over (λ (v : HeaderValues). v) (readHeader (st .«reference_frame_sz») s 0) ≡ refused e)
+  told : (e : Refusal) → (parsed s st .verdict ≡ Refused e) ↔ (over (λ (v : HeaderValues). v) (readHeader slots s 0) ≡ refused e)
   unfolding parsed
-  told e = (λ h. to (readHeader (st .«reference_frame_sz») s 0) h, λ h. from (readHeader (st .«reference_frame_sz») s 0) h)
+  told e = (λ h. to (readHeader slots s 0) h, λ h. from (readHeader slots s 0) h)
     where
-      to : (m : Read HeaderValues) → outcome st (λ v p. accepted (headerOf st v) (stateAfter st v)) m .verdict ≡ Refused e → over (λ (v : HeaderValues). v) m ≡ refused e
+      to : (m : Read HeaderValues) → outcome st answer m .verdict ≡ Refused e → over (λ (v : HeaderValues). v) m ≡ refused e
       to (read v p) h = let z : _≡_ {A = ℕ} 0 1 = cc in absurd (omega arith)
       to (stopped w) h = let we : w .refusal ≡ e = cc in rw we
 
-      from : (m : Read HeaderValues) → over (λ (v : HeaderValues). v) m ≡ refused e → outcome st (λ v p. accepted (headerOf st v) (stateAfter st v)) m .verdict ≡ Refused e
+      from : (m : Read HeaderValues) → over (λ (v : HeaderValues). v) m ≡ refused e → outcome st answer m .verdict ≡ Refused e
       from (read v p) h = let z : _≡_ {A = ℕ} 0 1 = cc in absurd (omega arith)
       from (stopped w) h = let we : w .refusal ≡ e = cc in rw we
 
-  -- document 01's 6: the earlier fields are well spelled, and the next one runs past the frame's last byte
-  pub six-exactly : (parsed s st .verdict ≡ Refused PastEnd)
-      ↔ ((v : HeaderValues) × Ranged (headerFields (st .«reference_frame_sz») v) × CutOff s 0 (headerFields (st .«reference_frame_sz») v))
-  six-exactly =
-      let t = told PastEnd in
-      let x = past-end-exactly (header-reads (st .«reference_frame_sz»)) (λ v. v) s 0 in
-      (λ h. x .0 (t .0 h), λ h. t .1 (x .1 h))
+  -- refused with 4, 5 or 6 exactly if the fields of some values are at fault for it
+  pub refused-exactly : (e : Refusal) → (parsed s st .verdict ≡ Refused e) ↔ AtFault slots s e
+  refused-exactly e = (λ h. read-at-fault e .0 (told e .0 h), λ h. told e .1 (read-at-fault e .1 h))
+    where
+      read-at-fault : (e : Refusal) → (over (λ (v : HeaderValues). v) (readHeader slots s 0) ≡ refused e) ↔ AtFault slots s e
+      read-at-fault FrameMarker = mark-exactly (header-reads slots) (λ v. v) s 0 frameMarker
+      read-at-fault SyncCode = mark-exactly (header-reads slots) (λ v. v) s 0 syncCode
+      read-at-fault PastEnd = past-end-exactly (header-reads slots) (λ v. v) s 0
 
-  -- document 01's 4 and 5: the earlier fields are well spelled, and the mark stands in full with another number
-  pub mark-said : (k : Mark) → (parsed s st .verdict ≡ Refused (markRefusal k))
-      ↔ ((v : HeaderValues) × Ranged (headerFields (st .«reference_frame_sz») v) × Unmarked s 0 (headerFields (st .«reference_frame_sz») v) k)
-  mark-said k =
-      let t = told (markRefusal k) in
-      let x = mark-exactly (header-reads (st .«reference_frame_sz»)) (λ v. v) s 0 k in
-      (λ h. x .0 (t .0 h), λ h. t .1 (x .1 h))
+  -- the answer is what demand 3 asks, and no other is
+  pub demanded : Demanded s st (parsed s st)
+  demanded = record { spelled = accepts; at-fault = λ e h. refused-whole e (refused-exactly e .1 h) }
+
+  pub no-other : (r : HeaderRead) → Demanded s st r → r ≡ parsed s st
+  no-other r h = go (parsed s st .verdict) refl
+    where
+      go : (x : Verdict) → parsed s st .verdict ≡ x → r ≡ parsed s st
+      go Accepted e = let m = accepted-exactly .0 e in h .spelled (m .0) (m .1) ∙ sym (accepts (m .0) (m .1))
+      go (Refused u) e = h .at-fault u (refused-exactly u .0 e) ∙ sym (refused-whole u e)
 
 -- the stated length: 0 for show-existing, and else the spelling's bits in whole bytes
 pub length-shown : (st : ReaderState) (v : HeaderValues) → showsExisting v ≡ true → headerOf st v .«uncompressed_header_size_in_bytes» ≡ 0
