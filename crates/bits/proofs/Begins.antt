@@ -14,7 +14,7 @@ use lib.Seq.{drop-cons, getD-append-add}
 use Rattle.bits.specs.Bit.{spell, bitsOf, Begins, bitAt, reach, Stands}
 use Rattle.bits.proofs.Stand.{length-spell}
 
-length-bits : (s : List ℕ) → length (bitsOf s) ≡ 8 * length s
+pub length-bits : (s : List ℕ) → length (bitsOf s) ≡ 8 * length s
 unfolding bitsOf
 length-bits [] = refl
 length-bits (b ∷ s) = simp (length-append, length-spell, length-bits s) (omega arith)

@@ -5,6 +5,7 @@ pub mod Begins
 pub mod Fields
 pub mod Laws
 pub mod Many
+pub mod Stopped
 pub mod Told
 pub mod Steps
 pub mod Binds

@@ -21,7 +21,7 @@ bitsOf (b ∷ s) = spell 8 b ++ bitsOf s
 abbrev pub Begins : List ℕ → List ℕ → Type 0
 Begins s l = (rest : List ℕ) × (bitsOf s ≡ l ++ rest)
 
--- refusals: the bit at place p, counted from the high bit of byte 0; 0 past the end
+-- reading: the bit at place p, counted from the high bit of byte 0; 0 past the end
 unfoldable pub bitAt : List ℕ → ℕ → ℕ
 bitAt s p = getD s (p / 8) 0 / 2 ^ (7 - p % 8) % 2
 
@@ -34,7 +34,7 @@ unfoldable pub Stands : List ℕ → ℕ → List ℕ → Type 0
 Stands s p [] = Unit
 Stands s p (b ∷ l) = (p < reach s) × (bitAt s p ≡ b) × Stands s (suc p) l
 
--- reading: the number that the n bits from p on spell
+-- the number that the n bits from p on spell
 unfoldable pub number : List ℕ → ℕ → ℕ → ℕ
 number s p zero = 0
 number s p (suc n) = number s p n * 2 + bitAt s (p + n)

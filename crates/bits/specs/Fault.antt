@@ -3,13 +3,37 @@
 use Prim.Native.Nat.{ℕ, _+_, _<_, _^_}
 use mathlib.Core.Path.{_≡_}
 use mathlib.Core.List.{List, _∷_, _++_}
-use Rattle.bits.specs.Bit.{reach, Stands, spell, missing}
+use lib.ListN.{length}
+use Rattle.bits.specs.Bit.{spell, bitsOf, Begins, reach, Stands, missing}
 use Rattle.bits.specs.Refusal.{Mark, markRefusal, Name}
 use Rattle.bits.specs.Syntax.{Field, only, flat, size, Ranged}
 use Rattle.bits.specs.declared.Refusal.{Refusal}
 use Rattle.bits.specs.declared.Refusal.the-variants.{PastEnd}
 
--- refusals: the fields are well spelled at p of s: in range, as demanded, and their bits stand there
+-- refusals: of the fields fs, the bits of s begin with some that are well spelled, and the next one, after their bits, has F
+pub record StopsIn (s : List ℕ) (fs : List Field) (F : List ℕ → Field → Type 0) : Type 0 where
+  pub before : List Field
+  pub at : Field
+  pub after : List Field
+  pub split : fs ≡ before ++ (at ∷ after)
+  pub ranged : Ranged before
+  pub begins : Begins s (flat before)
+  pub fault : F (flat before) at
+
+-- document 01's number 6: the field f, after the bits l, has bits past the last one of s
+abbrev pub PastLast : List ℕ → List ℕ → Field → Type 0
+PastLast s l f = length (bitsOf s) < length l + f .width
+
+-- its numbers 4 and 5: it is the mark k, and stands in full with another number than the one demanded
+pub record OtherNumber (s : List ℕ) (k : Mark) (l : List ℕ) (f : Field) : Type 0 where
+  pub found : ℕ
+  pub expected : ℕ
+  pub demanded : f .demand ≡ only expected k
+  pub range : found < 2 ^ (f .width)
+  pub begins : Begins s (l ++ spell (f .width) found)
+  pub differs : found ≡ expected → ⊥
+
+-- reading: the same by places. The fields are well spelled at p of s: in range, as demanded, and their bits stand there
 pub record Fits (s : List ℕ) (p : ℕ) (fs : List Field) : Type 0 where
   pub ranged : Ranged fs
   pub stands : Stands s p (flat fs)
@@ -37,14 +61,14 @@ pub record Other (s : List ℕ) (k : Mark) (q : ℕ) (f : Field) : Type 0 where
   pub stands : Stands s q (spell (f .width) found)
   pub differs : found ≡ expected → ⊥
 
--- document 01's number 6, and its numbers 4 and 5
+-- document 01's 6, and its 4 and 5, by places
 abbrev pub CutOff : List ℕ → ℕ → List Field → Type 0
 CutOff s p fs = StopsAt s p fs (Over s)
 
 abbrev pub Unmarked : List ℕ → ℕ → List Field → Mark → Type 0
 Unmarked s p fs k = StopsAt s p fs (Other s k)
 
--- reading: why it refused, with the field at fault, its first bit, and what was wrong with it
+-- why it refused, with the field at fault, its first bit, and what was wrong with it
 pub record Reason : Type 0 where
   pub refusal : Refusal
   pub name : Name

@@ -22,13 +22,13 @@ the x = record { of = x; nth = [] }
 abbrev pub item : String → ℕ → Name
 item x i = record { of = x; nth = i ∷ [] }
 
--- refusals: the one that another number at a mark gets
-abbrev pub markRefusal : Mark → Refusal
-markRefusal frameMarker = FrameMarker
-markRefusal syncCode = SyncCode
-
--- document 01's number
+-- refusals: document 01's number
 abbrev pub refusalNumber : Refusal → ℕ
 refusalNumber FrameMarker = 4
 refusalNumber SyncCode = 5
 refusalNumber PastEnd = 6
+
+-- reading: the refusal that another number at a mark gets
+abbrev pub markRefusal : Mark → Refusal
+markRefusal frameMarker = FrameMarker
+markRefusal syncCode = SyncCode

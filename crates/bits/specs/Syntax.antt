@@ -67,7 +67,7 @@ abbrev pub Ranged : List Field → Type 0
 Ranged [] = Unit
 Ranged (f ∷ fs) = ((f .number < 2 ^ (f .width)) × Meets (f .demand) (f .number)) × Ranged fs
 
--- refusals: how many bits the fields have
+-- reading: how many bits the fields have
 abbrev pub size : List Field → ℕ
 size [] = 0
 size (f ∷ fs) = f .width + size fs

@@ -9,13 +9,14 @@ use native.Mathlib.Omega.{arith}
 use lib.ListN.{length}
 use Rattle.bits.specs.declared.Refusal.{Refusal}
 use Rattle.bits.specs.declared.Refusal.the-variants.{FrameMarker, SyncCode, PastEnd}
-use Rattle.bits.specs.Refusal.{frameMarker, syncCode}
-use Rattle.bits.specs.Syntax.{flat}
-use Rattle.bits.specs.Fault.{Fits}
+use Rattle.bits.specs.Refusal.{Mark, frameMarker, syncCode, markRefusal}
+use Rattle.bits.specs.Syntax.{flat, size, Ranged}
+use Rattle.bits.specs.Fault.{Fits, StopsIn, OtherNumber}
 use Rattle.bits.specs.Reader.{Read, read, stopped, over, refused}
 use Rattle.bits.proofs.Begins.{begins}
 use Rattle.bits.proofs.Fields.{length-flat}
 use Rattle.bits.proofs.Laws.{unique}
+use Rattle.bits.proofs.Stopped.{cut-begins, mark-begins}
 use Rattle.bits.proofs.Told.{past-end-exactly, mark-exactly}
 use Rattle.settings.specs.declared.size.FrameSize.{FrameSize}
 use Rattle.types.specs.declared.state.ReaderState.{ReaderState}
@@ -90,10 +91,25 @@ module _ (s : List ℕ) (st : ReaderState) where
   pub refused-exactly : (e : Refusal) → (parsed s st .verdict ≡ Refused e) ↔ AtFault slots s e
   refused-exactly e = (λ h. read-at-fault e .0 (told e .0 h), λ h. told e .1 (read-at-fault e .1 h))
     where
+      few : (v : HeaderValues) → size (headerFields slots v) < 2 ^ 64
+      few v = omega (arith, header-size slots v)
+
+      marked : (k : Mark) → (over (λ (v : HeaderValues). v) (readHeader slots s 0) ≡ refused (markRefusal k))
+          ↔ ((v : HeaderValues) × Ranged (headerFields slots v) × StopsIn s (headerFields slots v) (OtherNumber s k))
+      marked k =
+          let x = mark-exactly (header-reads slots) (λ v. v) s 0 k in (
+            λ h. let m = x .0 h in (m .0, m .1, mark-begins s (headerFields slots (m .0)) (few (m .0)) k .0 (m .2)),
+            λ h. x .1 (h .0, h .1, mark-begins s (headerFields slots (h .0)) (few (h .0)) k .1 (h .2)),
+          )
+
       read-at-fault : (e : Refusal) → (over (λ (v : HeaderValues). v) (readHeader slots s 0) ≡ refused e) ↔ AtFault slots s e
-      read-at-fault FrameMarker = mark-exactly (header-reads slots) (λ v. v) s 0 frameMarker
-      read-at-fault SyncCode = mark-exactly (header-reads slots) (λ v. v) s 0 syncCode
-      read-at-fault PastEnd = past-end-exactly (header-reads slots) (λ v. v) s 0
+      read-at-fault FrameMarker = marked frameMarker
+      read-at-fault SyncCode = marked syncCode
+      read-at-fault PastEnd =
+          let x = past-end-exactly (header-reads slots) (λ v. v) s 0 in (
+            λ h. let m = x .0 h in (m .0, m .1, cut-begins s (headerFields slots (m .0)) (few (m .0)) .0 (m .2)),
+            λ h. x .1 (h .0, h .1, cut-begins s (headerFields slots (h .0)) (few (h .0)) .1 (h .2)),
+          )
 
   -- the answer is what demand 3 asks, and no other is
   pub demanded : Demanded s st (parsed s st)

@@ -7,7 +7,7 @@ use Rattle.bits.specs.declared.Refusal.{Refusal}
 use Rattle.bits.specs.declared.Refusal.the-variants.{FrameMarker, SyncCode, PastEnd}
 use Rattle.bits.specs.Refusal.{frameMarker, syncCode}
 use Rattle.bits.specs.Syntax.{Field, Ranged}
-use Rattle.bits.specs.Fault.{CutOff, Unmarked}
+use Rattle.bits.specs.Fault.{StopsIn, PastLast, OtherNumber}
 use Rattle.settings.specs.declared.size.FrameSize.{FrameSize}
 use Rattle.types.specs.declared.state.ReaderState.{ReaderState}
 use Rattle.grammar.specs.Header.{HeaderValues, headerFields, Spelled}
@@ -19,11 +19,11 @@ use Rattle.header.specs.Answer.{accepted, refusedWith}
 abbrev pub IsSpelled : List FrameSize → List ℕ → Type 0
 IsSpelled slots s = (v : HeaderValues) × Spelled slots s v
 
--- the fields are at fault: 4 and 5 for a mark with another number, 6 for a field that runs past the last byte, the fields before it being well spelled
+-- the fields are at fault: 4 and 5 for a mark with another number, 6 for a field that runs past the last bit, the fields before it being well spelled
 abbrev pub StopsFor : Refusal → List ℕ → List Field → Type 0
-StopsFor FrameMarker s fs = Unmarked s 0 fs frameMarker
-StopsFor SyncCode s fs = Unmarked s 0 fs syncCode
-StopsFor PastEnd s fs = CutOff s 0 fs
+StopsFor FrameMarker s fs = StopsIn s fs (OtherNumber s frameMarker)
+StopsFor SyncCode s fs = StopsIn s fs (OtherNumber s syncCode)
+StopsFor PastEnd s fs = StopsIn s fs (PastLast s)
 
 -- and so are those of some values, each in range
 abbrev pub AtFault : List FrameSize → List ℕ → Refusal → Type 0
