@@ -85,6 +85,14 @@ all-zero (f ∷ fs) h = go (eqb (f .number) 0) refl h (all-zero fs)
     go true e h rest = ((omega (arith, eqb-true (f .number) 0 e), tt), rest h)
     go false e h rest = let z : _≡_ {A = ℕ} 0 1 = cc in absurd (omega arith)
 
+pub zeros-join : (fs gs : List Field) → zeros fs ≡ true → zeros gs ≡ true → zeros (fs ++ gs) ≡ true
+zeros-join [] gs h k = k
+zeros-join (f ∷ fs) gs h k = go (eqb (f .number) 0) h (zeros-join fs gs)
+  where
+    go : (b : Bool) → b && zeros fs ≡ true → (zeros fs ≡ true → zeros gs ≡ true → zeros (fs ++ gs) ≡ true) → b && zeros (fs ++ gs) ≡ true
+    go true h rest = rest h k
+    go false h rest = h
+
 -- each number is below 2 to its field's width, whatever is demanded of it
 abbrev pub Within : List Field → Type 0
 Within [] = Unit

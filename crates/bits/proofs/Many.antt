@@ -3,14 +3,15 @@
 use Prim.Native.Nat.{ℕ, zero, suc, _+_, _-_, _≤_, _<_, zero-le, _*_}
 use native.Mathlib.Nat.{sub-zero}
 use mathlib.Core.Path.{_≡_, refl, sym, ap, _∙_}
+use mathlib.Core.Bool.{true}
 use mathlib.Core.List.{List}
 use native.Mathlib.Omega.{arith}
 use Rattle.bits.specs.declared.Refusal.{Refusal}
 use Rattle.bits.specs.Syntax.{Field, size}
 use Rattle.bits.specs.Reader.{Read, read, stopped, got, refused, bind, over, alter, Reader}
 use Rattle.bits.specs.Law.{Any, Reads}
-use Rattle.bits.specs.Many.{Times, manyFields, many, folds}
-use Rattle.bits.proofs.Fields.{size-append}
+use Rattle.bits.specs.Many.{Times, times, manyFields, many, folds}
+use Rattle.bits.proofs.Fields.{size-append, zeros, zeros-join}
 use Rattle.bits.proofs.Laws.{then, last, done}
 use Rattle.bits.proofs.Steps.{tail, group-stop, alter-over}
 
@@ -25,6 +26,11 @@ pub many-size : {A : Type 0} (f : ℕ → A → List Field) (m : ℕ) → ((i : 
 unfolding manyFields
 many-size f m each i zero v = zero-le
 many-size f m each i (suc n) v = rw size-append (omega (arith, each i (v .0), many-size f m each (i + 1) n (v .1)))
+
+pub many-zeros : {A : Type 0} (f : ℕ → A → List Field) (a : A) → ((i : ℕ) → zeros (f i a) ≡ true) → (i n : ℕ) → zeros (manyFields f i n (times n a)) ≡ true
+unfolding manyFields
+many-zeros f a each i zero = refl
+many-zeros f a each i (suc n) = zeros-join (f i a) (manyFields f (i + 1) n (times n a)) (each i) (many-zeros f a each (i + 1) n)
 
 module _ {A S : Type 0} (f : S → A → S) (i j : ℕ) (r : ℕ → Reader A) (s : List ℕ) (p : ℕ) (st : S) where
   -- a turn that reads

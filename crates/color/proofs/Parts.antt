@@ -4,7 +4,7 @@ use Prim.Native.Nat.{ℕ}
 use mathlib.Core.Path.{_≡_}
 use mathlib.Core.List.{List}
 use Rattle.bits.specs.Refusal.{the}
-use Rattle.bits.specs.Reader.{Read, Got, read, bind, field, fieldIf, over}
+use Rattle.bits.specs.Reader.{Read, read, bind, field, fieldIf}
 use Rattle.bits.proofs.Binds.{bind-assoc}
 use Rattle.grammar.specs.Tables.{ColorValues, deep}
 use Rattle.grammar.specs.Reading.{readColor}
@@ -28,6 +28,6 @@ inParts profile s p =
     bind (readSampling profile c s p) λ v p.
     read (flatColor d c v) p
 
-pub by-parts : {D : Type 0} (f : ColorValues → D) (profile : ℕ) (s : List ℕ) (p : ℕ) (y : Got D) → y ≡ over f (inParts profile s p) → y ≡ over f (readColor profile s p)
+pub in-parts : (profile : ℕ) (s : List ℕ) (p : ℕ) → readColor profile s p ≡ inParts profile s p
 unfolding readColor readSampling
-by-parts f profile s p y h = simp bind-assoc at h
+in-parts profile s p = simp bind-assoc

@@ -5,7 +5,7 @@ use mathlib.Core.Path.{_≡_}
 use mathlib.Core.List.{List}
 use Rattle.bits.specs.Refusal.{the}
 use Rattle.bits.specs.Syntax.{flag}
-use Rattle.bits.specs.Reader.{Read, Got, read, bind, field, fieldIf, groupIf, over}
+use Rattle.bits.specs.Reader.{Read, read, bind, field, fieldIf, groupIf}
 use Rattle.bits.proofs.Binds.{bind-assoc, bind-same, split}
 use Rattle.grammar.specs.Tables.{LoopFilterValues}
 use Rattle.grammar.specs.Reading.{readLoopFilter}
@@ -23,13 +23,10 @@ inParts s p =
     bind (groupIf (flag e) noLoopDeltas readLoopDeltas s p) λ d p.
     read (flatFilter l h e d) p
 
-in-parts : (s : List ℕ) (p : ℕ) → readLoopFilter s p ≡ inParts s p
+pub in-parts : (s : List ℕ) (p : ℕ) → readLoopFilter s p ≡ inParts s p
 unfolding readLoopFilter readLoopDeltas groupIf fieldIf
 in-parts s p =
     bind-same (field (the "loop_filter_level") 6 s p) _ _ λ l p.
     bind-same (field (the "loop_filter_sharpness") 3 s p) _ _ λ h p.
     bind-same (field (the "loop_filter_delta_enabled") 1 s p) _ _ λ e p.
     split (flag e) (λ on. rw on (simp bind-assoc)) (λ off. rw off)
-
-pub by-parts : {D : Type 0} (f : LoopFilterValues → D) (s : List ℕ) (p : ℕ) (y : Got D) → y ≡ over f (inParts s p) → y ≡ over f (readLoopFilter s p)
-by-parts f s p y h = rw (in-parts s p) h

@@ -14,9 +14,9 @@ use Rattle.bits.specs.Many.{Times, manyFields}
 use Rattle.bits.specs.Law.{Any, Reads}
 use Rattle.bits.proofs.Fields.{size-append, size-if, size-optional, zeros}
 use Rattle.bits.proofs.Laws.{field-reads, group-if, take, take-in, take-if, take-by, branch-in, then, next-if, last, ends, respelt, done}
-use Rattle.bits.proofs.Many.{many-reads, many-size}
+use Rattle.bits.proofs.Many.{many-reads, many-size, many-zeros}
 use Rattle.grammar.specs.Tables.{ColorValues, colorFields, deep, sampled, srgb, SizeValues, sizeFields, RenderValues, renderFields, RefValues, RefsValues, refFields, refsFields, FoundValues, foundFields, DeltaValues, deltaFields, refDelta, modeDelta, LoopFilterValues, loopFilterFields, QuantizerValues, quantizerFields, deltaQ, ProbValues, probFields, probsFields, FeatureValues, featureFields, featureBits, featureSigned, feature, featuresFields, SegmentationValues, segmentationFields, runFields, TilesValues, tilesFields, superblocks, span}
-use Rattle.grammar.specs.Reading.{readColor, noColor, readSize, noSizeValues, readRender, readRef, readRefs, noRefs, readFound, noFound, readDelta, readRefDeltas, readModeDeltas, noRefDeltas, noModeDeltas, readLoopFilter, readDeltaQ, readQuantizer, readProb, readProbs, noProbs, readFeature, readFeatures, noFeatures, readSegmentation, readRun, readTiles}
+use Rattle.grammar.specs.Reading.{readColor, noColor, readSize, noSizeValues, readRender, readRef, readRefs, noRefs, readFound, noFound, readDelta, noDelta, readRefDeltas, readModeDeltas, noRefDeltas, noModeDeltas, readLoopFilter, readDeltaQ, readQuantizer, readProb, noProb, readProbs, noProbs, readFeature, readFeatures, noFeatures, readSegmentation, readRun, readTiles}
 use Rattle.grammar.proofs.Limits.{most-le}
 
 -- color_config()
@@ -121,15 +121,11 @@ delta-size : (x y z : Name) (n : ℕ) (v : DeltaValues) → size (deltaFields x 
 unfolding deltaFields
 delta-size x y z n v = omega (arith, size-if (flag (v .coded)) n, size-if (flag (v .coded)) 1)
 
+delta-nil : (x y z : Name) (n : ℕ) → zeros (deltaFields x y z n noDelta) ≡ true
+unfolding deltaFields
+delta-nil x y z n = refl
+
 -- loop_filter_params()
-refs-deltas-nil : zeros (manyFields refDelta 0 4 noRefDeltas) ≡ true
-unfolding manyFields deltaFields
-refs-deltas-nil = refl
-
-modes-deltas-nil : zeros (manyFields modeDelta 0 2 noModeDeltas) ≡ true
-unfolding manyFields deltaFields
-modes-deltas-nil = refl
-
 pub loop-filter-reads : Reads Any loopFilterFields readLoopFilter
 unfolding loopFilterFields readLoopFilter readRefDeltas readModeDeltas
 loop-filter-reads =
@@ -137,8 +133,8 @@ loop-filter-reads =
     take (λ (v : LoopFilterValues). v .sharpness) λ h.
     take (λ (v : LoopFilterValues). v .delta-enabled) λ e.
     take-if (flag e) (λ (v : LoopFilterValues). flag (v .delta-enabled)) (λ v k. rw (k .1)) (the "loop_filter_delta_update") 1 (λ (v : LoopFilterValues). v .delta-update) λ u.
-    next-if (flag u) (λ (v : LoopFilterValues). flag (v .delta-update)) (λ v k. rw (k .1)) noRefDeltas refs-deltas-nil (λ (v : LoopFilterValues). v .ref-deltas) (many-reads 0 4 (λ i. delta-reads _ _ _ 6)) λ r.
-    ends (next-if (flag u) (λ (v : LoopFilterValues). flag (v .delta-update)) (λ v k. rw (k .0 .1)) noModeDeltas modes-deltas-nil (λ (v : LoopFilterValues). v .mode-deltas) (many-reads 0 2 (λ i. delta-reads _ _ _ 6)) λ m.
+    next-if (flag u) (λ (v : LoopFilterValues). flag (v .delta-update)) (λ v k. rw (k .1)) noRefDeltas (many-zeros refDelta noDelta (λ i. delta-nil _ _ _ 6) 0 4) (λ (v : LoopFilterValues). v .ref-deltas) (many-reads 0 4 (λ i. delta-reads _ _ _ 6)) λ r.
+    ends (next-if (flag u) (λ (v : LoopFilterValues). flag (v .delta-update)) (λ v k. rw (k .0 .1)) noModeDeltas (many-zeros modeDelta noDelta (λ i. delta-nil _ _ _ 6) 0 2) (λ (v : LoopFilterValues). v .mode-deltas) (many-reads 0 2 (λ i. delta-reads _ _ _ 6)) λ m.
     done _ (search) (λ b k. rw (← (k .1), ← (k .0 .1), ← (k .0 .0 .1), ← (k .0 .0 .0 .1), ← (k .0 .0 .0 .0 .1), ← (k .0 .0 .0 .0 .0 .1))))
 
 pub loop-filter-size : (v : LoopFilterValues) → size (loopFilterFields v) ≤ 59
@@ -187,13 +183,13 @@ probs-reads : (x y : String) (n : ℕ) → Reads Any (probsFields x y n) (readPr
 unfolding probsFields readProbs
 probs-reads x y n = many-reads 0 n (λ i. prob-reads (item x i) (item y i))
 
-tree-nil : (x y : String) → zeros (probsFields x y 7 (noProbs 7)) ≡ true
-unfolding probsFields manyFields probFields
-tree-nil x y = refl
+prob-nil : (x y : Name) → zeros (probFields x y noProb) ≡ true
+unfolding probFields
+prob-nil x y = refl
 
-pred-nil : (x y : String) → zeros (probsFields x y 3 (noProbs 3)) ≡ true
-unfolding probsFields manyFields probFields
-pred-nil x y = refl
+probs-nil : (x y : String) (n : ℕ) → zeros (probsFields x y n (noProbs n)) ≡ true
+unfolding probsFields
+probs-nil x y n = many-zeros (λ i. probFields (item x i) (item y i)) noProb (λ i. prob-nil (item x i) (item y i)) 0 n
 
 probs-size : (x y : String) (n : ℕ) (v : Times n ProbValues) → size (probsFields x y n v) ≤ n * 9
 unfolding probsFields
@@ -238,9 +234,9 @@ unfolding segmentationFields readSegmentation
 segmentation-reads =
     take (λ (v : SegmentationValues). v .enabled) λ e.
     take-if (flag e) (λ (v : SegmentationValues). flag (v .enabled)) (λ v k. rw (k .1)) (the "segmentation_update_map") 1 (λ (v : SegmentationValues). v .update-map) λ m.
-    next-if (flag m) (λ (v : SegmentationValues). flag (v .update-map)) (λ v k. rw (k .1)) (noProbs 7) (tree-nil _ _) (λ (v : SegmentationValues). v .tree-probs) (probs-reads "tree_prob_coded" "segmentation_tree_probs" 7) λ t.
+    next-if (flag m) (λ (v : SegmentationValues). flag (v .update-map)) (λ v k. rw (k .1)) (noProbs 7) (probs-nil _ _ 7) (λ (v : SegmentationValues). v .tree-probs) (probs-reads "tree_prob_coded" "segmentation_tree_probs" 7) λ t.
     take-if (flag m) (λ (v : SegmentationValues). flag (v .update-map)) (λ v k. rw (k .0 .1)) (the "segmentation_temporal_update") 1 (λ (v : SegmentationValues). v .temporal-update) λ u.
-    next-if (flag u) (λ (v : SegmentationValues). flag (v .temporal-update)) (λ v k. rw (k .1)) (noProbs 3) (pred-nil _ _) (λ (v : SegmentationValues). v .pred-probs) (probs-reads "pred_prob_coded" "segmentation_pred_prob" 3) λ p.
+    next-if (flag u) (λ (v : SegmentationValues). flag (v .temporal-update)) (λ v k. rw (k .1)) (noProbs 3) (probs-nil _ _ 3) (λ (v : SegmentationValues). v .pred-probs) (probs-reads "pred_prob_coded" "segmentation_pred_prob" 3) λ p.
     take-if (flag e) (λ (v : SegmentationValues). flag (v .enabled)) (λ v k. rw (k .0 .0 .0 .0 .1)) (the "segmentation_update_data") 1 (λ (v : SegmentationValues). v .update-data) λ d.
     take-if (flag d) (λ (v : SegmentationValues). flag (v .update-data)) (λ v k. rw (k .1)) (the "segmentation_abs_or_delta_update") 1 (λ (v : SegmentationValues). v .abs-or-delta-update) λ a.
     ends (next-if (flag d) (λ (v : SegmentationValues). flag (v .update-data)) (λ v k. rw (k .0 .1)) noFeatures features-nil (λ (v : SegmentationValues). v .features) features-reads λ f.

@@ -5,7 +5,7 @@ use mathlib.Core.Path.{_≡_}
 use mathlib.Core.List.{List}
 use Rattle.bits.specs.Refusal.{the}
 use Rattle.bits.specs.Syntax.{flag}
-use Rattle.bits.specs.Reader.{Read, Got, read, bind, field, fieldIf, groupIf, over}
+use Rattle.bits.specs.Reader.{Read, read, bind, field, fieldIf, groupIf}
 use Rattle.bits.proofs.Binds.{bind-assoc, bind-same, split}
 use Rattle.grammar.specs.Tables.{SegmentationValues}
 use Rattle.grammar.specs.Reading.{readSegmentation}
@@ -32,11 +32,8 @@ inParts s p =
     bind (groupIf (flag e) noData readData s p) λ d p.
     read (flatSegmentation e m d) p
 
-in-parts : (s : List ℕ) (p : ℕ) → readSegmentation s p ≡ inParts s p
+pub in-parts : (s : List ℕ) (p : ℕ) → readSegmentation s p ≡ inParts s p
 unfolding readSegmentation readMap readData groupIf fieldIf
 in-parts s p =
     bind-same (field (the "segmentation_enabled") 1 s p) _ _ λ e p.
     split (flag e) (λ on. rw on (simp bind-assoc)) (λ off. rw off)
-
-pub by-parts : {D : Type 0} (f : SegmentationValues → D) (s : List ℕ) (p : ℕ) (y : Got D) → y ≡ over f (inParts s p) → y ≡ over f (readSegmentation s p)
-by-parts f s p y h = rw (in-parts s p) h

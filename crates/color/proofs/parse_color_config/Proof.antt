@@ -1,5 +1,6 @@
-use Rattle.color.proofs.Parts.{by-parts}
+use Rattle.color.proofs.Parts.{in-parts}
 use Rattle.bits.proofs.Steps.{reading}
+use Rattle.bits.proofs.Binds.{as-parts}
 use Rattle.color.proofs.Records.{color-read}
 use Rattle.sampling.proofs.Steps.{sampling-step, sampling-stop}
 use borrow.Author.Needs.{needs}
@@ -13,7 +14,7 @@ enum-known-depth : tie.Need-enum-known-depth
 enum-known-depth c = search needs
 
 returns : tie.Need-returns
-returns c = by-parts _ _ _ _ _ (search reading)
+returns c = as-parts _ (in-parts _ _ _) (search reading)
 
 read-bits-requires : tie.Need-read-bits-requires
 read-bits-requires c κs = search needs
@@ -22,7 +23,7 @@ enum-known-space : tie.Need-enum-known-space
 enum-known-space c = search needs
 
 returns-2 : tie.Need-returns-2
-returns-2 c = by-parts _ _ _ _ _ (search reading)
+returns-2 c = as-parts _ (in-parts _ _ _) (search reading)
 
 parse-sampling-requires : tie.Need-parse-sampling-requires
 parse-sampling-requires c κs = search needs
@@ -34,7 +35,7 @@ enum-told : tie.Need-enum-told
 enum-told c = search needs
 
 returns-3 : tie.Need-returns-3
-returns-3 c = by-parts _ _ _ _ _ (search (reading, sampling-stop))
+returns-3 c = as-parts _ (in-parts _ _ _) (search (reading, sampling-stop))
 
 depth-of-requires : tie.Need-depth-of-requires
 depth-of-requires c κs = search needs
@@ -43,7 +44,7 @@ of-three-bits-requires : tie.Need-of-three-bits-requires
 of-three-bits-requires c κs = search needs
 
 returns-4 : tie.Need-returns-4
-returns-4 c = by-parts _ _ _ _ _ (search (reading, sampling-step, color-read))
+returns-4 c = as-parts _ (in-parts _ _ _) (search (reading, sampling-step, color-read))
 
 pub parse-color-config-spec : {M : Type 1} → statement M
 parse-color-config-spec =

@@ -1,5 +1,6 @@
-use Rattle.filter.proofs.Parts.{by-parts}
+use Rattle.filter.proofs.Parts.{in-parts}
 use Rattle.bits.proofs.Steps.{reading}
+use Rattle.bits.proofs.Binds.{as-parts}
 use Rattle.loop_deltas.proofs.Readings.{group-left, group-taken, group-tail}
 use Rattle.loop_deltas.proofs.Steps.{settings-stop}
 use Rattle.filter.proofs.Records.{byte-fits, filter-moved, filter-plain}
@@ -14,7 +15,7 @@ enum-known-level : tie.Need-enum-known-level
 enum-known-level c = search needs
 
 returns : tie.Need-returns
-returns c = (by-parts _ _ _ _ (search reading), λ e h. (search))
+returns c = (as-parts _ (in-parts _ _) (search reading), λ e h. (search))
 
 read-bits-requires-2 : tie.Need-read-bits-requires-2
 read-bits-requires-2 c κs = search needs
@@ -23,7 +24,7 @@ enum-known-sharpness : tie.Need-enum-known-sharpness
 enum-known-sharpness c = search needs
 
 returns-2 : tie.Need-returns-2
-returns-2 c = (by-parts _ _ _ _ (search reading), λ e h. (search))
+returns-2 c = (as-parts _ (in-parts _ _) (search reading), λ e h. (search))
 
 read-bits-requires-3 : tie.Need-read-bits-requires-3
 read-bits-requires-3 c κs = search needs
@@ -32,7 +33,7 @@ enum-known-enabled : tie.Need-enum-known-enabled
 enum-known-enabled c = search needs
 
 returns-3 : tie.Need-returns-3
-returns-3 c = (by-parts _ _ _ _ (search reading), λ e h. (search))
+returns-3 c = (as-parts _ (in-parts _ _) (search reading), λ e h. (search))
 
 cast-lf : tie.Need-cast-lf
 cast-lf c = search byte-fits
@@ -50,13 +51,13 @@ enum-known-next : tie.Need-enum-known-next
 enum-known-next c = search needs
 
 returns-4 : tie.Need-returns-4
-returns-4 c = (by-parts _ _ _ _ (search (reading, group-tail, filter-moved)), λ e h. (search))
+returns-4 c = (as-parts _ (in-parts _ _) (search (reading, group-tail, filter-moved)), λ e h. (search))
 
 returns-5 : tie.Need-returns-5
-returns-5 c = (by-parts _ _ _ _ (search (reading, group-taken, settings-stop)), λ e h. (search))
+returns-5 c = (as-parts _ (in-parts _ _) (search (reading, group-taken, settings-stop)), λ e h. (search))
 
 returns-6 : tie.Need-returns-6
-returns-6 c = (by-parts _ _ _ _ (search (reading, group-left, filter-plain)), λ e h. (search))
+returns-6 c = (as-parts _ (in-parts _ _) (search (reading, group-left, filter-plain)), λ e h. (search))
 
 pub parse-loop-filter-params-spec : {M : Type 1} → statement M
 parse-loop-filter-params-spec =

@@ -1,8 +1,9 @@
 use mathlib.Core.Path.{refl}
 use Rattle.bits.proofs.Steps.{reading}
+use Rattle.bits.proofs.Binds.{as-parts}
 use Rattle.segment_map.proofs.Records.{old-kept, none-kept}
 use Rattle.segment_map.proofs.Steps.{there-step, there-stop, absent}
-use Rattle.segmentation.proofs.Parts.{by-parts}
+use Rattle.segmentation.proofs.Parts.{in-parts}
 use Rattle.segmentation.proofs.Records.{off-read, parts-read}
 use borrow.Author.Needs.{needs}
 use Rattle.segmentation.proofs.parse_segmentation_params.Statement.{statement}
@@ -15,10 +16,10 @@ enum-known-enabled : tie.Need-enum-known-enabled
 enum-known-enabled c = search needs
 
 returns : tie.Need-returns
-returns c = (by-parts _ _ _ _ (search reading), refl)
+returns c = (as-parts _ (in-parts _ _) (search reading), refl)
 
 returns-2 : tie.Need-returns-2
-returns-2 c = (by-parts _ _ _ _ (search (reading, absent, off-read)), tt)
+returns-2 c = (as-parts _ (in-parts _ _) (search (reading, absent, off-read)), tt)
 
 parse-map-requires : tie.Need-parse-map-requires
 parse-map-requires c κs = search needs
@@ -30,7 +31,7 @@ enum-told : tie.Need-enum-told
 enum-told c = search needs
 
 returns-3 : tie.Need-returns-3
-returns-3 c = (by-parts _ _ _ _ (search (reading, there-stop)), search old-kept)
+returns-3 c = (as-parts _ (in-parts _ _) (search (reading, there-stop)), search old-kept)
 
 parse-data-requires : tie.Need-parse-data-requires
 parse-data-requires c κs = search needs
@@ -42,10 +43,10 @@ enum-told-3 : tie.Need-enum-told-3
 enum-told-3 c = search needs
 
 returns-4 : tie.Need-returns-4
-returns-4 c = (by-parts _ _ _ _ (search (reading, there-step, there-stop)), search old-kept)
+returns-4 c = (as-parts _ (in-parts _ _) (search (reading, there-step, there-stop)), search old-kept)
 
 returns-5 : tie.Need-returns-5
-returns-5 c = (by-parts _ _ _ _ (search (reading, there-step, parts-read)), search none-kept)
+returns-5 c = (as-parts _ (in-parts _ _) (search (reading, there-step, parts-read)), search none-kept)
 
 pub parse-segmentation-params-spec : {M : Type 1} → statement M
 parse-segmentation-params-spec =
