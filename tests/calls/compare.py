@@ -3,10 +3,10 @@
 
 Usage: compare.py [--program PROGRAM] [--judge JUDGE] [--write DIR]
 
-PROGRAM is the proved program calls (default target/bin/calls, made by `rt check calls`); crates/calls/src/main.rt
+PROGRAM is the proved program calls (default target/bin/calls, made by `rt check calls`); crates/test_calls/src/main.rt
 says what it reads. JUDGE is our driver over the Rust (tests/judge), which has try_from and the records of a
 whole IVF file; without it those are held to document 01 alone. The same run makes the same calls.
---write DIR makes crates/calls' stdin and stdout, a few of the calls with document 01's answers.
+--write DIR makes crates/test_calls' stdin and stdout, a few of the calls with document 01's answers.
 
 Exit 0 if all agrees, 1 on a difference."""
 

@@ -1,6 +1,6 @@
 #!/usr/bin/env python3
 """Makes the fixed list of answers that `rt check` and `rt ci` replay with no Rust at hand:
-crates/digest/stdin, some thousands of chunks, and crates/digest/stdout, the answers of the Rust.
+crates/test_digest/stdin, some thousands of chunks, and crates/test_digest/stdout, the answers of the Rust.
 
 Usage: fixed.py [--judge JUDGE] [--check]
 
@@ -167,7 +167,7 @@ def main():
         return
     found = differing(made)
     for name in found:
-        print(f"WRONG: crates/digest/{name} isn't what fixed.py writes")
+        print(f"WRONG: crates/test_digest/{name} isn't what fixed.py writes")
     sys.exit(1 if found else 0)
 
 

@@ -83,7 +83,7 @@ class Cases:
         return old, self.header(), self.spelled
 
 
-# The form that the programs read; crates/read_segments/src/main.rt says what it is.
+# The form that the programs read; crates/test_segments/src/main.rt says what it is.
 
 def signed(n, size):
     if n == -(1 << (8 * size - 1)):

@@ -3,11 +3,11 @@ ghost use mathlib.Core.Path.{_≡_};
 ghost use mathlib.Core.Bool.{false, _&&_};
 ghost use Prim.Native.Nat.{_+_, _*_};
 ghost use lib.IntN.{pos};
-ghost use Rattle.enums.specs.SegLvl.{segLvlNumber};
-ghost use Rattle.settings.specs.SegmentationParams.{featureIn};
+ghost use Rattle.base_enums.specs.SegLvl.{segLvlNumber};
+ghost use Rattle.base_settings.specs.SegmentationParams.{featureIn};
 ghost use Rattle.segment_features.specs.Features.{featuresIn};
-use enums::SegLvl;
-use settings::SegmentationParams;
+use base_enums::SegLvl;
+use base_settings::SegmentationParams;
 
 pub type Enabled = [bool; SegmentationParams::FEATURES];
 

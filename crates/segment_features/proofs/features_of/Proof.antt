@@ -1,7 +1,7 @@
 -- `segment_features::features_of` meets its contract: each field is one look into a row.
 use borrow.Author.Needs.{needs}
 use mir.Syntax.{w16}
-use Rattle.clamp.proofs.Casts.{given}
+use Rattle.segment_clamp.proofs.Casts.{given}
 use Rattle.segment_features.specs.Features.{featuresIn}
 use Rattle.segment_features.proofs.features_of.Statement.{statement}
 use Rattle.segment_features.proofs.features_of.Tie as tie

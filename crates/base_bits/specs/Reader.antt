@@ -1,0 +1,72 @@
+-- Readings: what stands at a place of the bytes, as a definition that the code is proved equal to.
+-- Assumes nothing.
+use Prim.Native.Nat.{ℕ, _+_}
+use mathlib.Core.Bool.{Bool, true, false}
+use mathlib.Core.List.{List}
+use lib.Dec.{eqb}
+use Rattle.base_bits.specs.declared.Next.{Next}
+use Rattle.base_bits.specs.declared.Next.the-variants.{At, Refused}
+use Rattle.base_bits.specs.declared.Refusal.{Refusal}
+use Rattle.base_bits.specs.Bit.{number, fits}
+use Rattle.base_bits.specs.Syntax.{pick}
+use Rattle.base_bits.specs.Refusal.{Mark, Name}
+use Rattle.base_bits.specs.Fault.{Reason, cutAt, wrongAt}
+
+-- one of two statements, by a test
+abbrev pub pickT : Bool → Type 0 → Type 0 → Type 0
+pickT true a b = a
+pickT false a b = b
+
+-- what a reading answers: a value and the place past it, or why it stopped
+pub data Read (A : Type 0) : Type 0 where
+  read : A → ℕ → Read A
+  stopped : Reason → Read A
+
+abbrev pub Reader : Type 0 → Type 0
+Reader A = List ℕ → ℕ → Read A
+
+abbrev pub give : {A : Type 0} → A → Reader A
+give a s p = read a p
+
+abbrev pub bind : {A B : Type 0} → Read A → (A → ℕ → Read B) → Read B
+bind (read a p) k = k a p
+bind (stopped w) k = stopped w
+
+infixl 10 _>>=_
+abbrev pub _>>=_ : {A B : Type 0} → Reader A → (A → Reader B) → Reader B
+_>>=_ r k s p = bind (r s p) (λ a e. k a s e)
+
+-- the field x, of n bits
+unfoldable pub field : Name → ℕ → Reader ℕ
+field x n s p = pick (fits s p n) (read (number s p n) (p + n)) (stopped (cutAt x n s p))
+
+-- the field x, of n bits, a mark whose number must be m
+unfoldable pub must : Name → ℕ → ℕ → Mark → Reader ℕ
+must x n m k s p = bind (field x n s p) (λ a q. pick (eqb a m) (read a q) (stopped (wrongAt k x p a m)))
+
+-- a syntax that is there only if b holds, and has the value d where it isn't
+unfoldable pub groupIf : {A : Type 0} → Bool → A → Reader A → Reader A
+groupIf b d r = pick b r (give d)
+
+unfoldable pub fieldIf : Bool → Name → ℕ → Reader ℕ
+fieldIf b x n = pick b (field x n) (give 0)
+
+-- what the code answers: a value and the place past it, or the refusal
+pub data Got (A : Type 0) : Type 0 where
+  got : A → ℕ → Got A
+  refused : Refusal → Got A
+
+-- the code's answer to a reading: what f makes of the value, or the refusal without its reason
+abbrev pub over : {A B : Type 0} → (A → B) → Read A → Got B
+over f (read a p) = got (f a) p
+over f (stopped w) = refused (w .refusal)
+
+-- the code's answer where the value stands beside its place
+abbrev pub viewNext : {A : Type 0} → A → Next → Got A
+viewNext a (At c) = got a (c .at)
+viewNext a (Refused e) = refused e
+
+-- an answer with what g makes of its value
+abbrev pub alter : {A B : Type 0} → (A → B) → Got A → Got B
+alter g (got a p) = got (g a) p
+alter g (refused e) = refused e

@@ -1,0 +1,19 @@
+// A frame's size in pixels.
+ghost use mathlib.Core.Path.{_≡_};
+ghost use Rattle.base_settings.specs.FrameSize.{noSize};
+
+pub struct FrameSize {
+    pub width: u32,
+    pub height: u32,
+}
+
+impl FrameSize {
+    pub fn none() -> Self
+        ensures { λ r. ⌜ r ≡ noSize ⌝ }
+    {
+        Self {
+            width: 0,
+            height: 0,
+        }
+    }
+}

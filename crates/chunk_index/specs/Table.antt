@@ -1,0 +1,54 @@
+-- Document 01's table, numbers 1 to 3, and what holds of a chunk that is split, stated on its bytes. proofs/Table.antt and proofs/Tiles.antt show that `splitOf` is so.
+-- Assumes nothing.
+use Prim.Native.Nat.{ℕ, _+_, _≤_, _<_}
+use mathlib.Core.Path.{_≡_}
+use mathlib.Core.List.{List}
+use lib.ListN.{length, getD}
+use Rattle.chunk_index.specs.declared.Answer.{Answer}
+use Rattle.chunk_index.specs.declared.Answer.the-variants.{Frames, Empty, Short, Past}
+use Rattle.chunk_index.specs.declared.Split.{Split}
+use Rattle.chunk_index.specs.Layout.{Layout, marker, lastByte, indexBytes, indexStart, layoutOf, frameEnd}
+
+-- the chunk has no bytes
+abbrev pub NoBytes : List ℕ → Type 0
+NoBytes s = length s ≡ 0
+
+-- last byte starts with bits 110 (marker 6, by proofs/LastByte.antt) and the chunk is shorter than the index it announces
+abbrev pub Cut : List ℕ → Type 0
+Cut s = (marker (lastByte s) ≡ 6) × (length s < indexBytes (lastByte s))
+
+-- a frame's end lies past the room for frames
+abbrev pub SomePast : Layout → Type 0
+SomePast l = (i : ℕ) × (i < l .frames) × (l .room < frameEnd l i)
+
+-- no frame's end does
+abbrev pub NonePast : Layout → Type 0
+NonePast l = (i : ℕ) → i < l .frames → frameEnd l i ≤ l .room
+
+-- frame i is the first whose end does
+pub record FirstPast (l : Layout) (i : ℕ) : Type 0 where
+  pub among : i < l .frames
+  pub earlier : (j : ℕ) → j < i → frameEnd l j ≤ l .room
+  pub past : l .room < frameEnd l i
+
+-- when each answer is given, in document 01's order: numbers 1, 2 and 3, and a chunk that is split
+abbrev pub When : Answer → List ℕ → Type 0
+When Empty s = NoBytes s
+When Short s = Cut s
+When (Past i) s = (NoBytes s → ⊥) × (Cut s → ⊥) × FirstPast (layoutOf s) i
+When (Frames n) s = (NoBytes s → ⊥) × (Cut s → ⊥) × NonePast (layoutOf s) × (n ≡ layoutOf s .frames)
+
+-- the chunk has an index: the first byte of the one that the last byte announces equals it
+abbrev pub Indexed : List ℕ → Type 0
+Indexed s = (marker (lastByte s) ≡ 6) × (getD s (indexStart s) 0 ≡ lastByte s)
+
+-- r holds the frames of l, which tile the room from 0
+pub record Tiles (l : Layout) (r : Split) : Type 0 where
+  pub count : r .answer ≡ Frames (l .frames)
+  pub sizes : (i : ℕ) → i < l .frames → getD (r .size) i 0 ≡ l .size i
+  pub origin : getD (r .at) 0 0 ≡ 0
+  pub next : (i : ℕ) → i + 1 < l .frames → getD (r .at) (i + 1) 0 ≡ getD (r .at) i 0 + getD (r .size) i 0
+  pub within : (i : ℕ) → i < l .frames → getD (r .at) i 0 + getD (r .size) i 0 ≤ l .room
+  -- eight places, those past the last frame being 0
+  pub eight : (length (r .at) ≡ 8) × (length (r .size) ≡ 8)
+  pub rest : (i : ℕ) → l .frames ≤ i → (getD (r .at) i 0 ≡ 0) × (getD (r .size) i 0 ≡ 0)

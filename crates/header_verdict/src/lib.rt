@@ -1,0 +1,39 @@
+// What is said of a header, accepted or a refusal, and of a frame by where it lies.
+ghost use mathlib.Core.Path.{_≡_};
+ghost use Rattle.header_verdict.specs.Verdict.{verdictNumber, placeNumber};
+use base_bits::Refusal;
+
+pub enum Verdict {
+    Accepted,
+    Refused(Refusal),
+}
+
+impl Verdict {
+    // Document 01's number, and 0 for what is accepted.
+    pub fn number(self) -> u8
+        ensures { λ r. ⌜ r ≡ verdictNumber self ⌝ }
+    {
+        match self {
+            Verdict::Accepted => 0,
+            Verdict::Refused(e) => e.number(),
+        }
+    }
+}
+
+// Whether a frame lies in its chunk, and if so what its header says.
+pub enum Place {
+    Outside,
+    Inside(Verdict),
+}
+
+impl Place {
+    // Document 01's number, and 0 for what is accepted.
+    pub fn number(self) -> u8
+        ensures { λ r. ⌜ r ≡ placeNumber self ⌝ }
+    {
+        match self {
+            Place::Outside => 3,
+            Place::Inside(v) => v.number(),
+        }
+    }
+}

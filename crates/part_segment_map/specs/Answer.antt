@@ -1,0 +1,16 @@
+-- What the code answers where it reads a part of segmentation_params(): the settings, and the place beside them.
+-- Assumes nothing.
+use mathlib.Core.Path.{_≡_}
+use Rattle.base_bits.specs.Reader.{Got, viewNext}
+use Rattle.base_bits.specs.declared.Next.{Next}
+use Rattle.base_bits.specs.declared.Next.the-variants.{At, Refused}
+use Rattle.base_settings.specs.declared.segmentation.SegmentationParams.{SegmentationParams}
+use Rattle.part_segment_map.specs.declared.SegmentationRead.{SegmentationRead}
+
+abbrev pub viewSegmentation : SegmentationRead → Got SegmentationParams
+viewSegmentation r = viewNext (r .seg) (r .next)
+
+-- a refusal hands the old settings back
+abbrev pub Kept : SegmentationParams → SegmentationParams → Next → Type 0
+Kept old seg (At c) = Unit
+Kept old seg (Refused e) = seg ≡ old

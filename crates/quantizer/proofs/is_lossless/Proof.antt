@@ -1,9 +1,0 @@
-use borrow.Author.Needs.{needs}
-use Rattle.grammar.specs.Settings.{lossless}
-use Rattle.quantizer.proofs.Records.{zeros}
-use Rattle.quantizer.proofs.is_lossless.Statement.{statement}
-use Rattle.quantizer.proofs.is_lossless.Tie as tie
-
-pub is-lossless-spec : {M : Type 1} → statement M
-unfolding lossless
-is-lossless-spec = tie.close (tie.spec (λ c. search (needs, zeros)) (λ c. search (needs, zeros)) (λ c. search (needs, zeros)) (λ c. search (needs, zeros)))

@@ -1,0 +1,52 @@
+-- `digest::signed_shorts` is safe and ends: the index runs from 0 to the length.
+use mathlib.Core.Path.{_≡_}
+use Prim.Native.Nat.{_-_}
+use lib.ListN.{length}
+use borrow.Author.Needs.{needs}
+use Rattle.test_digest.proofs.signed_shorts.Statement.{statement}
+use Rattle.test_digest.proofs.signed_shorts.Tie as tie
+
+abbrev Inv-loop : tie.InvT-loop
+Inv-loop h s next₀ i₀ i-end next i = i-end ≡ length s
+
+abbrev μ-loop : tie.MeasureT-loop
+μ-loop h s next₀ i₀ i-end next i = i-end - i
+
+loop-holds : tie.Need-loop-holds Inv-loop μ-loop
+loop-holds c = search needs
+
+mul-signed : tie.Need-mul-signed Inv-loop μ-loop
+mul-signed c = search needs
+
+shared-slice-copy-out-signed : tie.Need-shared-slice-copy-out-signed Inv-loop μ-loop
+shared-slice-copy-out-signed c = search needs
+
+signed-requires : tie.Need-signed-requires Inv-loop μ-loop
+signed-requires c κs = search needs
+
+add-i : tie.Need-add-i Inv-loop μ-loop
+add-i c = search needs
+
+loop-less : tie.Need-loop-less Inv-loop μ-loop
+loop-less c = search needs
+
+loop-again : tie.Need-loop-again Inv-loop μ-loop
+loop-again c = search needs
+
+returns : tie.Need-returns Inv-loop μ-loop
+returns c = search needs
+
+pub signed-shorts-spec : {M : Type 1} → statement M
+signed-shorts-spec =
+    tie.close
+    (tie.spec
+    Inv-loop
+    μ-loop
+    loop-holds
+    mul-signed
+    shared-slice-copy-out-signed
+    signed-requires
+    add-i
+    loop-less
+    loop-again
+    returns)

@@ -1,0 +1,127 @@
+// The line of a frame. It is put whole, or not at all where fewer than `text_line::MAX_LINE` bytes are left.
+ghost use mathlib.Core.Path.{_≡_};
+ghost use mathlib.Core.List.{_++_};
+ghost use Rattle.text_numeral.specs.Ascii.{ascii};
+ghost use Rattle.text_numeral.specs.Numeral.{numeral};
+ghost use Rattle.text_numeral.specs.Put.{Written};
+ghost use Rattle.text_line.specs.Line.{Line};
+ghost use Rattle.text_frame_line.specs.Frame.{kindOf, kindWord, frameLine};
+use base_enums::FrameType;
+use base_types::Header;
+
+pub enum Kind {
+    Key,
+    Intra,
+    Inter,
+    Show,
+}
+
+impl Kind {
+    // What a frame's header says that it is.
+    fn of(header: Header) -> Kind
+        ensures { λ r. ⌜ r ≡ kindOf header ⌝ }
+    {
+        if header.show_existing_frame {
+            return Kind::Show;
+        }
+        let frame_type = header.frame_type;
+        match frame_type {
+            FrameType::KeyFrame => Kind::Key,
+            FrameType::InterFrame => if header.intra_only {
+                Kind::Intra
+            } else {
+                Kind::Inter
+            },
+        }
+    }
+}
+
+fn put_kind(out: &mut [u8], at: usize, kind: Kind) -> usize
+    ensures { λ r. ⌜ Written (now (out .entry)) at (kindWord kind) r (now (out .exit)) ⌝ }
+{
+    match kind {
+        Kind::Key => text_numeral::put(out, at, b"key"),
+        Kind::Intra => text_numeral::put(out, at, b"intra"),
+        Kind::Inter => text_numeral::put(out, at, b"inter"),
+        Kind::Show => text_numeral::put(out, at, b"show"),
+    }
+}
+
+// `C I kind `
+fn put_frame(out: &mut [u8], at: usize, chunk: u64, frame: u64, kind: Kind) -> usize
+    ensures { λ r. ⌜ Written (now (out .entry)) at ((numeral chunk ++ ascii " ") ++ ((numeral frame ++ ascii " ") ++ (kindWord kind ++ ascii " "))) r (now (out .exit)) ⌝ }
+{
+    let a = text_line::put_field(out, at, chunk);
+    let b = text_line::put_field(out, a, frame);
+    let c = put_kind(out, b, kind);
+    text_numeral::put(out, c, b" ")
+}
+
+// `at size width height `
+fn put_sizes(out: &mut [u8], at: usize, place: u64, size: u64, width: u32, height: u32) -> usize
+    ensures { λ r. ⌜ Written (now (out .entry)) at ((numeral place ++ ascii " ") ++ ((numeral size ++ ascii " ") ++ ((numeral width ++ ascii " ") ++ (numeral height ++ ascii " ")))) r (now (out .exit)) ⌝ }
+{
+    let w = width as u64;
+    let h = height as u64;
+    let a = text_line::put_field(out, at, place);
+    let b = text_line::put_field(out, a, size);
+    let c = text_line::put_field(out, b, w);
+    text_line::put_field(out, c, h)
+}
+
+// `refresh hdr`, and the line's end.
+fn put_header(out: &mut [u8], at: usize, refresh: u8, hdr: u16) -> usize
+    ensures { λ r. ⌜ Written (now (out .entry)) at ((numeral refresh ++ ascii " ") ++ (numeral hdr ++ ascii "\n")) r (now (out .exit)) ⌝ }
+{
+    let f = refresh as u64;
+    let n = hdr as u64;
+    let next = text_line::put_field(out, at, f);
+    text_line::put_last(out, next, n)
+}
+
+fn put_frame_line(
+    out: &mut [u8],
+    at: usize,
+    chunk: u64,
+    frame: u64,
+    place: u64,
+    size: u64,
+    header: Header,
+) -> usize
+    ensures { λ r. ⌜ Written (now (out .entry)) at (frameLine chunk frame place size header) r (now (out .exit)) ⌝ }
+{
+    let a = put_frame(out, at, chunk, frame, Kind::of(header));
+    let b = put_sizes(out, a, place, size, header.width, header.height);
+    put_header(
+        out,
+        b,
+        header.refresh_frame_flags,
+        header.uncompressed_header_size_in_bytes,
+    )
+}
+
+// A frame of an accepted chunk, with its place and size in the chunk and its header.
+pub fn frame_line(
+    out: &mut [u8],
+    at: usize,
+    chunk: u64,
+    frame: usize,
+    place: usize,
+    size: usize,
+    header: Header,
+) -> usize
+    ensures { λ r. ⌜ Line (now (out .entry)) at (frameLine chunk frame place size header) r (now (out .exit)) ⌝ }
+{
+    if !text_line::has_room(out.len(), at) {
+        return at;
+    }
+    put_frame_line(
+        out,
+        at,
+        chunk,
+        frame as u64,
+        place as u64,
+        size as u64,
+        header,
+    )
+}
