@@ -13,18 +13,12 @@ use lib.ListN.{length, getD, drop, length-append, length-drop, List·getD-append
 use lib.Seq.{drop-cons, getD-append-add}
 use Rattle.base_bits.specs.Bit.{spell, bitsOf, Begins, bitAt, reach, Stands}
 use Rattle.base_bits.proofs.Stand.{length-spell}
+use Rattle.base_shared.proofs.Order.{below}
 
 pub length-bits : (s : List ℕ) → length (bitsOf s) ≡ 8 * length s
 unfolding bitsOf
 length-bits [] = refl
 length-bits (b ∷ s) = simp (length-append, length-spell, length-bits s) (omega arith)
-
-below : (n m : ℕ) → (n ≤ m) ⊎ (m < n)
-below n m = go (ltb m n) refl
-  where
-    go : (b : Bool) → ltb m n ≡ b → (n ≤ m) ⊎ (m < n)
-    go true e = inr (ltb-true m n e)
-    go false e = inl (ltb-false m n e)
 
 -- bit i of the n that spell v
 spell-at : (n v i : ℕ) → i < n → getD (spell n v) i 0 ≡ v / 2 ^ (n - 1 - i) % 2

@@ -12,7 +12,8 @@ use lib.ListN.{length, length-append}
 use lib.Pow.{pow-pos}
 use borrow.Author.Tests.{eqb-true}
 use Rattle.base_bits.specs.Bit.{Stands, spell}
-use Rattle.base_bits.specs.Syntax.{Field, fld, pick, bare, optional, flat, size, Ranged}
+use Rattle.base_shared.specs.Choice.{pick}
+use Rattle.base_bits.specs.Syntax.{Field, fld, bare, optional, flat, size, Ranged}
 use Rattle.base_bits.specs.Fault.{Fits, Reason, Fault, cut, wrong, Stops}
 use Rattle.base_bits.specs.Reader.{Read, read, stopped}
 use Rattle.base_bits.specs.Law.{Past}

@@ -12,7 +12,8 @@ use lib.Pow.{pow-pos}
 use borrow.Author.Tests.{eq-eqb, ne-eqb, eqb-true, eqb-false}
 use Rattle.base_bits.specs.Bit.{Stands, spell, number, fits}
 use Rattle.base_bits.specs.Refusal.{Mark, Name}
-use Rattle.base_bits.specs.Syntax.{Field, fld, fixed, bare, fldIf, optional, size, Ranged, pick}
+use Rattle.base_shared.specs.Choice.{pick}
+use Rattle.base_bits.specs.Syntax.{Field, fld, fixed, bare, fldIf, optional, size, Ranged}
 use Rattle.base_bits.specs.Fault.{Fits, Reason, cutAt, wrongAt, Fault, cut, wrong, Stops}
 use Rattle.base_bits.specs.Reader.{Read, read, stopped, bind, Reader, give, _>>=_, field, must, groupIf, fieldIf}
 use Rattle.base_bits.specs.Law.{Any, Past, Reads}

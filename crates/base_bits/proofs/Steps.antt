@@ -24,7 +24,7 @@ use Rattle.base_bits.specs.Refusal.{Mark, markRefusal, Name, the}
 use Rattle.base_bits.specs.Fault.{cutAt}
 use Rattle.base_bits.specs.Read.{readBits, readBitsIf}
 use Rattle.base_bits.specs.Reader.{Got, Read, read, stopped, got, refused, bind, over, alter, viewNext, Reader, field, must, fieldIf, groupIf}
-use Rattle.base_bits.specs.Syntax.{pick}
+use Rattle.base_shared.specs.Choice.{pick}
 use lib.Pow.{pow-pos}
 use Rattle.base_bits.proofs.Laws.{field-reads, field-got, field-cut}
 use Rattle.base_bits.proofs.Bits.{the-type}

@@ -7,7 +7,7 @@ use lib.Dec.{leb}
 use Rattle.base_bits.specs.declared.Bits.{Bits}
 use Rattle.base_bits.specs.declared.Bits.the-variants.{Value, Short, TooWide}
 use Rattle.base_bits.specs.Bit.{number, fits}
-use Rattle.base_bits.specs.Syntax.{pick}
+use Rattle.base_shared.specs.Choice.{pick}
 
 -- over 31 bits are too wide; fewer are short, or their number and the place past them
 unfoldable pub readBits : List ℕ → ℕ → ℕ → Bits

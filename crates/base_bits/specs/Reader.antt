@@ -8,14 +8,9 @@ use Rattle.base_bits.specs.declared.Next.{Next}
 use Rattle.base_bits.specs.declared.Next.the-variants.{At, Refused}
 use Rattle.base_bits.specs.declared.Refusal.{Refusal}
 use Rattle.base_bits.specs.Bit.{number, fits}
-use Rattle.base_bits.specs.Syntax.{pick}
+use Rattle.base_shared.specs.Choice.{pick}
 use Rattle.base_bits.specs.Refusal.{Mark, Name}
 use Rattle.base_bits.specs.Fault.{Reason, cutAt, wrongAt}
-
--- one of two statements, by a test
-abbrev pub pickT : Bool → Type 0 → Type 0 → Type 0
-pickT true a b = a
-pickT false a b = b
 
 -- what a reading answers: a value and the place past it, or why it stopped
 pub data Read (A : Type 0) : Type 0 where

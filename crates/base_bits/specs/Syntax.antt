@@ -7,6 +7,7 @@ use mathlib.Core.List.{List, [], _∷_, _++_}
 use lib.Dec.{eqb}
 use Rattle.base_bits.specs.Bit.{spell}
 use Rattle.base_bits.specs.Refusal.{Mark, Name}
+use Rattle.base_shared.specs.Choice.{pick}
 
 -- what a field's number must be: anything that its width holds, or the one right number of a mark
 pub data Demand : Type 0 where
@@ -40,11 +41,6 @@ fs then gs = fs ++ gs
 abbrev pub bare : List Field → List Field
 bare [] = []
 bare (f ∷ fs) = fld (f .name) 0 (f .number) ∷ bare fs
-
--- one of two, by a test
-abbrev pub pick : {A : Type 0} → Bool → A → A → A
-pick true a b = a
-pick false a b = b
 
 -- a field, and fields, that are there only if b holds
 abbrev pub fldIf : Bool → Name → ℕ → ℕ → Field

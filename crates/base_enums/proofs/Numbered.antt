@@ -7,21 +7,22 @@ use Prim.Native.Nat.{ℕ, zero, suc, _<_, _≤_, zero-le}
 use native.Mathlib.Omega.{arith}
 use lib.Dec.{T, eqb}
 use borrow.Author.Tests.{ne-eqb, eqb-true, eqb-false}
-use Rattle.base_enums.specs.Numbered.{Answer, some, none, pick, numbered, answered, Decides}
+use Rattle.base_shared.specs.Choice.{pick}
+use Rattle.base_enums.specs.Numbered.{Answer, some, none, numbered, tried, Decides}
 use lib.ListN.{getD, length}
 use types.Run.{OneOf}
 
 -- The steps: an arm that names the number k, and the last arm, which has passed each number.
 module _ {A R : Type 0} (ok : A → R) (err : R) (f : A → ℕ) (n : ℕ) (x : R) where
-  pub named : (l : List A) (k : ℕ) → n ≡ k → x ≡ answered ok err (numbered f l k) → x ≡ answered ok err (numbered f l n)
+  pub named : (l : List A) (k : ℕ) → n ≡ k → x ≡ tried ok err (numbered f l k) → x ≡ tried ok err (numbered f l n)
   named l k e h = rw e h
 
-  pub passed : (a : A) (l : List A) → (n ≡ f a → ⊥) → x ≡ answered ok err (numbered f l n) → x ≡ answered ok err (numbered f (a ∷ l) n)
+  pub passed : (a : A) (l : List A) → (n ≡ f a → ⊥) → x ≡ tried ok err (numbered f l n) → x ≡ tried ok err (numbered f (a ∷ l) n)
   unfolding numbered
   passed a l e h = rw (ne-eqb n (f a) e) h
 
   -- two numbers in one step: a search goes some eight steps deep
-  pub passed-two : (a b : A) (l : List A) → (n ≡ f a → ⊥) → (n ≡ f b → ⊥) → x ≡ answered ok err (numbered f l n) → x ≡ answered ok err (numbered f (a ∷ b ∷ l) n)
+  pub passed-two : (a b : A) (l : List A) → (n ≡ f a → ⊥) → (n ≡ f b → ⊥) → x ≡ tried ok err (numbered f l n) → x ≡ tried ok err (numbered f (a ∷ b ∷ l) n)
   unfolding numbered
   passed-two a b l e g h = rw (ne-eqb n (f a) e, ne-eqb n (f b) g) h
 
@@ -71,17 +72,17 @@ module _ {A : Type 0} (f : A → ℕ) where
 
   -- `once` and `apart`: the code's answers keep variants apart from each other and from the refusal
   module _ {R : Type 0} (ok : A → R) (err : R) (once : (a b : A) → ok a ≡ ok b → a ≡ b) (apart : (a : A) → ok a ≡ err → _≡_ {A = ℕ} 0 1) (l : List A) (listed : Listed l) where
-    pub decides : Decides ok err f (λ n. answered ok err (numbered f l n))
+    pub decides : Decides ok err f (λ n. tried ok err (numbered f l n))
     decides = record { accepts = λ n a. (to n a (numbered f l n) refl, from n a); refuses = λ n. (none-of n, λ h. rw (nowhere l n h)) }
       where
-        to : (n : ℕ) (a : A) (x : Answer A) → numbered f l n ≡ x → answered ok err x ≡ ok a → n ≡ f a
+        to : (n : ℕ) (a : A) (x : Answer A) → numbered f l n ≡ x → tried ok err x ≡ ok a → n ≡ f a
         to n a (some b) h e = let ba : b ≡ a = once b a e in rw (← ba) (sound l n b h)
         to n a none h e = let z = apart a (sym e) in omega arith
 
-        from : (n : ℕ) (a : A) → n ≡ f a → answered ok err (numbered f l n) ≡ ok a
+        from : (n : ℕ) (a : A) → n ≡ f a → tried ok err (numbered f l n) ≡ ok a
         from n a e = rw (e, listed a)
 
-        none-of : (n : ℕ) → answered ok err (numbered f l n) ≡ err → (a : A) → n ≡ f a → ⊥
+        none-of : (n : ℕ) → tried ok err (numbered f l n) ≡ err → (a : A) → n ≡ f a → ⊥
         none-of n h a e = let z = apart a (sym (from n a e) ∙ h) in omega arith
 
 both : (a b : Bool) → T (pick a b false) → (a ≡ true) × T b

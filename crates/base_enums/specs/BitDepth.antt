@@ -1,7 +1,7 @@
 -- BitDepth: the number of each variant, and the variant of each number.
 use Prim.Native.Nat.{ℕ}
 use mathlib.Core.List.{List, [], _∷_}
-use Rattle.base_enums.specs.Numbered.{numbered, answered}
+use Rattle.base_enums.specs.Numbered.{numbered, tried}
 use Rattle.base_enums.specs.declared.BitDepth.{BitDepth}
 use Rattle.base_enums.specs.declared.BitDepth.the-variants.{Depth8, Depth10, Depth12}
 use Rattle.base_enums.specs.declared.TryBitDepth.{TryBitDepth}
@@ -17,4 +17,4 @@ abbrev pub depths : List BitDepth
 depths = Depth8 ∷ Depth10 ∷ Depth12 ∷ []
 
 abbrev pub depthNumbered : ℕ → TryBitDepth
-depthNumbered n = answered Ok Err (numbered depthNumber depths n)
+depthNumbered n = tried Ok Err (numbered depthNumber depths n)

@@ -1,7 +1,7 @@
 -- ColorRange: the number of each variant, and the variant of each number.
 use Prim.Native.Nat.{ℕ}
 use mathlib.Core.List.{List, [], _∷_}
-use Rattle.base_enums.specs.Numbered.{numbered, answered}
+use Rattle.base_enums.specs.Numbered.{numbered, tried}
 use Rattle.base_enums.specs.declared.ColorRange.{ColorRange}
 use Rattle.base_enums.specs.declared.ColorRange.the-variants.{StudioSwing, FullSwing}
 use Rattle.base_enums.specs.declared.TryColorRange.{TryColorRange}
@@ -22,4 +22,4 @@ colorRangeNumber StudioSwing = 0
 colorRangeNumber FullSwing = 1
 
 abbrev pub colorRangeNumbered : ℕ → TryColorRange
-colorRangeNumbered n = answered Ok Err (numbered colorRangeNumber colorRanges n)
+colorRangeNumbered n = tried Ok Err (numbered colorRangeNumber colorRanges n)

@@ -1,7 +1,7 @@
 -- ColorSpace: the number of each variant, and the variant of each number.
 use Prim.Native.Nat.{ℕ}
 use mathlib.Core.List.{List, [], _∷_}
-use Rattle.base_enums.specs.Numbered.{numbered, answered}
+use Rattle.base_enums.specs.Numbered.{numbered, tried}
 use Rattle.base_enums.specs.declared.ColorSpace.{ColorSpace}
 use Rattle.base_enums.specs.declared.ColorSpace.the-variants.{Unknown, Bt601, Bt709, Smpte170, Smpte240, Bt2020, Reserved2, CsSrgb}
 use Rattle.base_enums.specs.declared.TryColorSpace.{TryColorSpace}
@@ -28,4 +28,4 @@ colorSpaceNumber Reserved2 = 6
 colorSpaceNumber CsSrgb = 7
 
 abbrev pub colorSpaceNumbered : ℕ → TryColorSpace
-colorSpaceNumbered n = answered Ok Err (numbered colorSpaceNumber colorSpaces n)
+colorSpaceNumbered n = tried Ok Err (numbered colorSpaceNumber colorSpaces n)

@@ -1,7 +1,7 @@
 -- InterpolationFilter: the number of each variant, and the variant of each number.
 use Prim.Native.Nat.{ℕ}
 use mathlib.Core.List.{List, [], _∷_}
-use Rattle.base_enums.specs.Numbered.{numbered, answered}
+use Rattle.base_enums.specs.Numbered.{numbered, tried}
 use Rattle.base_enums.specs.declared.InterpolationFilter.{InterpolationFilter}
 use Rattle.base_enums.specs.declared.InterpolationFilter.the-variants.{EightTap, EightTapSmooth, EightTapSharp, Bilinear, Switchable}
 use Rattle.base_enums.specs.declared.TryInterpolationFilter.{TryInterpolationFilter}
@@ -28,4 +28,4 @@ abbrev pub filters : List InterpolationFilter
 filters = EightTap ∷ EightTapSmooth ∷ EightTapSharp ∷ Bilinear ∷ Switchable ∷ []
 
 abbrev pub filterNumbered : ℕ → TryInterpolationFilter
-filterNumbered n = answered Ok Err (numbered filterNumber filters n)
+filterNumbered n = tried Ok Err (numbered filterNumber filters n)

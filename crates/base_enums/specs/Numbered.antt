@@ -5,15 +5,12 @@ use mathlib.Core.List.{List, [], _∷_}
 use mathlib.Core.Bool.{Bool, true, false}
 use mathlib.Core.Logic.{_↔_}
 use lib.Dec.{eqb}
+use Rattle.base_shared.specs.Choice.{pick}
 
 -- numbers
 pub data Answer (A : Type 0) : Type 0 where
   some : A → Answer A
   none : Answer A
-
-abbrev pub pick : {A : Type 0} → Bool → A → A → A
-pick true a b = a
-pick false a b = b
 
 -- of the variants of a list, the first that f numbers n
 unfoldable pub numbered : {A : Type 0} → (A → ℕ) → List A → ℕ → Answer A
@@ -21,9 +18,9 @@ numbered f [] n = none
 numbered f (a ∷ others) n = pick (eqb n (f a)) (some a) (numbered f others n)
 
 -- an answer in an enum of the code
-abbrev pub answered : {A R : Type 0} → (A → R) → R → Answer A → R
-answered ok err (some a) = ok a
-answered ok err none = err
+abbrev pub tried : {A R : Type 0} → (A → R) → R → Answer A → R
+tried ok err (some a) = ok a
+tried ok err none = err
 
 -- what makes t a decision over each number: it answers a to a's number and to no other, and refuses exactly what numbers nothing
 pub record Decides {A R : Type 0} (ok : A → R) (err : R) (f : A → ℕ) (t : ℕ → R) : Type 0 where

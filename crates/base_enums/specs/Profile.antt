@@ -1,7 +1,7 @@
 -- Profile: the number of each variant, and the variant of each number.
 use Prim.Native.Nat.{ℕ}
 use mathlib.Core.List.{List, [], _∷_}
-use Rattle.base_enums.specs.Numbered.{numbered, answered}
+use Rattle.base_enums.specs.Numbered.{numbered, tried}
 use Rattle.base_enums.specs.declared.Profile.{Profile}
 use Rattle.base_enums.specs.declared.Profile.the-variants.{Profile0, Profile1, Profile2, Profile3}
 use Rattle.base_enums.specs.declared.TryProfile.{TryProfile}
@@ -24,4 +24,4 @@ profileNumber Profile2 = 2
 profileNumber Profile3 = 3
 
 abbrev pub profileNumbered : ℕ → TryProfile
-profileNumbered n = answered Ok Err (numbered profileNumber profiles n)
+profileNumbered n = tried Ok Err (numbered profileNumber profiles n)

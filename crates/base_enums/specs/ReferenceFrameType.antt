@@ -1,7 +1,7 @@
 -- ReferenceFrameType: the number of each variant, and the variant of each number.
 use Prim.Native.Nat.{ℕ}
 use mathlib.Core.List.{List, [], _∷_}
-use Rattle.base_enums.specs.Numbered.{numbered, answered}
+use Rattle.base_enums.specs.Numbered.{numbered, tried}
 use Rattle.base_enums.specs.declared.ReferenceFrameType.{ReferenceFrameType}
 use Rattle.base_enums.specs.declared.ReferenceFrameType.the-variants.{Intra, Last, Golden, AltRef}
 use Rattle.base_enums.specs.declared.TryReferenceFrameType.{TryReferenceFrameType}
@@ -18,4 +18,4 @@ abbrev pub references : List ReferenceFrameType
 references = Intra ∷ Last ∷ Golden ∷ AltRef ∷ []
 
 abbrev pub referenceNumbered : ℕ → TryReferenceFrameType
-referenceNumbered n = answered Ok Err (numbered referenceNumber references n)
+referenceNumbered n = tried Ok Err (numbered referenceNumber references n)

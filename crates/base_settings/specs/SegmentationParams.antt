@@ -5,7 +5,7 @@ use mathlib.Core.Bool.{Bool, false, _&&_}
 use lib.Dec.{ltb}
 use lib.IntN.{ℤ, pos}
 use lib.ListN.{getD, replicate}
-use Rattle.base_enums.specs.Numbered.{pick}
+use Rattle.base_shared.specs.Choice.{pick}
 use Rattle.base_enums.specs.SegLvl.{segLvlNumber}
 use Rattle.base_enums.specs.declared.SegLvl.{SegLvl}
 use Rattle.base_settings.specs.declared.segmentation.SegmentationParams.{SegmentationParams}

@@ -8,6 +8,9 @@ pub struct FrameSize {
 }
 
 impl FrameSize {
+    // How many sizes a reader remembers: VP9's NUM_REF_FRAMES.
+    pub const REMEMBERED: usize = 8;
+
     pub fn none() -> Self
         ensures { λ r. ⌜ r ≡ noSize ⌝ }
     {

@@ -3,13 +3,9 @@
 use Prim.Native.Nat.{ℕ, _+_, _/_, _%_, _^_}
 use mathlib.Core.List.{List, [], _∷_}
 use lib.Dec.{eqb}
-use Rattle.base_enums.specs.Numbered.{pick}
+use Rattle.base_shared.specs.Choice.{pick}
 use Rattle.base_settings.specs.declared.size.FrameSize.{FrameSize}
-
--- f of each element and its number, from number i on
-unfoldable pub each : {A : Type 0} → (ℕ → A → A) → ℕ → List A → List A
-each f i [] = []
-each f i (x ∷ xs) = f i x ∷ each f (i + 1) xs
+use Rattle.base_shared.specs.Lists.{each}
 
 -- slot i takes the new size where bit i of the flags is 1
 abbrev pub slotAfter : ℕ → FrameSize → ℕ → FrameSize → FrameSize

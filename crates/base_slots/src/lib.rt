@@ -3,7 +3,6 @@ ghost use Prim.Native.Nat.{_<_};
 ghost use mathlib.Core.Path.{_≡_};
 ghost use Rattle.base_slots.specs.Slots.{slotAfter, refreshed};
 use base_settings::FrameSize;
-use base_types::ReaderState;
 
 fn slot_after(flags: u8, i: usize, new: FrameSize, old: FrameSize) -> FrameSize
     requires { ⌜ i < 8 ⌝ }
@@ -14,10 +13,10 @@ fn slot_after(flags: u8, i: usize, new: FrameSize, old: FrameSize) -> FrameSize
 
 // Slot i takes the new size where bit i of the flags is 1, and else keeps its own.
 pub fn refresh(
-    slots: [FrameSize; ReaderState::REF_FRAMES],
+    slots: [FrameSize; FrameSize::REMEMBERED],
     new: FrameSize,
     flags: u8,
-) -> [FrameSize; ReaderState::REF_FRAMES]
+) -> [FrameSize; FrameSize::REMEMBERED]
     ensures { λ r. ⌜ r ≡ refreshed flags new slots ⌝ }
 {
     let mut out = slots;

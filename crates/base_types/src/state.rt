@@ -20,7 +20,7 @@ pub struct ReaderState {
 }
 
 impl ReaderState {
-    pub const REF_FRAMES: usize = 8;
+    pub const REF_FRAMES: usize = FrameSize::REMEMBERED;
 
     pub fn fresh() -> Self
         ensures { λ r. ⌜ r ≡ freshState ⌝ }

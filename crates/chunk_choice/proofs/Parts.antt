@@ -8,7 +8,8 @@ use native.Mathlib.Omega.{arith}
 use lib.ListN.{length, take, drop}
 use borrow.Author.Tests.{le-leb, lt-leb}
 use denote.Ref.{RefT, ptr, now}
-use Rattle.chunk_choice.specs.Choice.{inside, partBytes, partStart, PartOf}
+use Rattle.base_shared.specs.Lists.{inside}
+use Rattle.chunk_choice.specs.Choice.{partBytes, partStart, PartOf}
 
 module _ (s r : RefT (List ℕ)) (offset size : ℕ) where
   outside : inside (now s) offset size ≡ false → now r ≡ [] → ptr r ≡ (ptr s .0, 0 + ptr s .1) → PartOf s offset size r

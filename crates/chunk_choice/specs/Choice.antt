@@ -7,11 +7,8 @@ use mathlib.Core.List.{List, []}
 use lib.Dec.{leb}
 use lib.ListN.{length, take, drop}
 use denote.Ref.{RefT, ptr, now}
-use Rattle.base_bits.specs.Syntax.{pick}
-
--- a part lies inside: its offset is at most the length, and its size at most what is left
-abbrev pub inside : List ℕ → ℕ → ℕ → Bool
-inside s offset size = leb offset (length s) && leb size (length s - offset)
+use Rattle.base_shared.specs.Choice.{pick}
+use Rattle.base_shared.specs.Lists.{inside}
 
 -- the bytes of that part; none where it lies outside
 unfoldable pub partBytes : List ℕ → ℕ → ℕ → List ℕ

@@ -5,23 +5,20 @@ use mathlib.Core.Bool.{Bool, _&&_}
 use mathlib.Core.List.{List}
 use lib.Dec.{leb}
 use lib.ListN.{length, take, drop}
-use Rattle.base_bits.specs.Syntax.{pick}
+use Rattle.base_shared.specs.Choice.{pick}
 use Rattle.base_types.specs.Header.{defaultHeader}
 use Rattle.base_types.specs.declared.state.ReaderState.{ReaderState}
 use Rattle.header_parser.specs.Answer.{parsed}
 use Rattle.header_parser.specs.declared.HeaderRead.{HeaderRead}
 use Rattle.chunk_frame.specs.declared.FrameRead.{FrameRead}
 use Rattle.header_verdict.specs.declared.Place.the-variants.{Outside, Inside}
+use Rattle.base_shared.specs.Lists.{inside}
 
 abbrev pub outsideFrame : ReaderState → FrameRead
 outsideFrame st = record { place = Outside; header = defaultHeader; state = st }
 
 abbrev pub insideFrame : HeaderRead → FrameRead
 insideFrame r = record { place = Inside (r .verdict); header = r .header; state = r .state }
-
--- an offset over the length, or a size over the length minus the offset, lies outside
-abbrev pub inside : List ℕ → ℕ → ℕ → Bool
-inside chunk offset size = leb offset (length chunk) && leb size (length chunk - offset)
 
 unfoldable pub framePlaced : List ℕ → ℕ → ℕ → ReaderState → FrameRead
 framePlaced chunk offset size st = pick (inside chunk offset size) (insideFrame (parsed (take size (drop offset chunk)) st)) (outsideFrame st)

@@ -10,7 +10,7 @@ use borrow.Author.Tests.{lt-ltb, ltb-true, eq-eqb, ne-eqb, eqb-true}
 use Rattle.chunk_index.specs.declared.Answer.the-variants.{Empty, Short}
 use Rattle.chunk_index.specs.declared.Split.{Split}
 use Rattle.chunk_index.specs.Layout.{marker, bytesPerSize, framesIn, indexBytes, lastByte, announced, cut, indexed, laid, whole, byIndex, layoutOf}
-use Rattle.chunk_index.specs.Split.{refused, placed, splitOf}
+use Rattle.chunk_index.specs.Split.{refusedSplit, placed, splitOf}
 use Rattle.chunk_index.specs.Table.{NoBytes, Cut, Indexed}
 
 not-both : (a b : Bool) → (a ≡ true → b ≡ true → ⊥) → (a && b) ≡ false
@@ -24,11 +24,11 @@ no-bytes [] h m = omega arith
 no-bytes (b ∷ s) h m = omega arith
 
 module _ (s : List ℕ) where
-  pub split-empty : NoBytes s → splitOf s ≡ refused Empty
+  pub split-empty : NoBytes s → splitOf s ≡ refusedSplit Empty
   unfolding splitOf
   split-empty h = rw (eq-eqb _ _ h)
 
-  pub split-cut : Cut s → splitOf s ≡ refused Short
+  pub split-cut : Cut s → splitOf s ≡ refusedSplit Short
   unfolding splitOf cut announced
   split-cut h = rw (ne-eqb _ _ (λ z. no-bytes s z (h .0)), eq-eqb _ _ (h .0), lt-ltb _ _ (h .1))
 
@@ -56,7 +56,7 @@ module _ (s : List ℕ) (last n count : ℕ) (e : last ≡ lastByte s) (m : mark
   bytes : 2 + count * n ≡ indexBytes (lastByte s)
   bytes = rw (en, ec, e)
 
-  pub announced-cut : length s < 2 + count * n → r ≡ refused Short → r ≡ splitOf s
+  pub announced-cut : length s < 2 + count * n → r ≡ refusedSplit Short → r ≡ splitOf s
   announced-cut l h = h ∙ sym (split-cut s (marked, rw bytes at l))
 
   module _ (l : 2 + count * n ≤ length s) where

@@ -1,4 +1,4 @@
--- The first number that has a property, and the first frame that ends past the room.
+-- The first frame that ends past the room.
 -- Assumes nothing.
 use Prim.Native.Nat.{ℕ, zero, suc, _+_, _<_, _≤_}
 use mathlib.Core.Path.{_≡_, refl, sym}
@@ -8,48 +8,24 @@ use native.Mathlib.Nat.{eq-or-lt-of-le}
 use native.Mathlib.Omega.{arith}
 use lib.Dec.{ltb}
 use borrow.Author.Tests.{ltb-true, ltb-false, lt-ltb, le-ltb}
-use Rattle.base_bits.specs.Syntax.{pick}
+use Rattle.base_shared.specs.Choice.{pick}
 use Rattle.chunk_index.specs.Layout.{Layout, frameEnd}
 use Rattle.chunk_index.specs.declared.Answer.the-variants.{Past}
-use Rattle.chunk_index.specs.Split.{refused, places, first, firstPast, placed}
+use Rattle.base_shared.specs.Lists.{first}
+use Rattle.chunk_index.specs.Split.{refusedSplit, places, firstPast, placed}
 use Rattle.chunk_index.specs.Table.{SomePast, FirstPast, NonePast}
-
-pub below : (n m : ℕ) → (n < m) ⊎ (m ≤ n)
-below n m = go (ltb n m) refl
-  where
-    go : (b : Bool) → ltb n m ≡ b → (n < m) ⊎ (m ≤ n)
-    go true e = inl (ltb-true n m e)
-    go false e = inr (ltb-false n m e)
-
--- none before it has the property
-before : (p : ℕ → Bool) (i n j : ℕ) → i ≤ j → j < first p i n → p j ≡ false
-unfolding first
-before p i zero j l h = absurd (omega arith)
-before p i (suc n) j l h = go (p i) refl (before p (i + 1) n j) h
-  where
-    go : (b : Bool) → p i ≡ b → (i + 1 ≤ j → j < first p (i + 1) n → p j ≡ false) → j < pick b i (first p (i + 1) n) → p j ≡ false
-    go true e later k = absurd (omega arith)
-    go false e later k = ⊎-elim (λ q. rw q at e) (λ q. later (omega arith) k) (eq-or-lt-of-le {n = i} {m = j} l)
-
--- it has the property
-holds : (p : ℕ → Bool) (i n : ℕ) → first p i n < i + n → p (first p i n) ≡ true
-unfolding first
-holds p i zero h = absurd (omega arith)
-holds p i (suc n) h = go (p i) refl (holds p (i + 1) n) h
-  where
-    go : (b : Bool) → p i ≡ b → (first p (i + 1) n < i + 1 + n → p (first p (i + 1) n) ≡ true) → pick b i (first p (i + 1) n) < i + suc n → p (pick b i (first p (i + 1) n)) ≡ true
-    go true e later k = e
-    go false e later k = later (omega arith)
+use Rattle.base_shared.proofs.Order.{below}
+use Rattle.base_shared.proofs.First.{first-has, none-before}
 
 module _ (l : Layout) where
   -- frames before the first that ends past the room end within it
   earlier-fits : (j : ℕ) → j < firstPast l → frameEnd l j ≤ l .room
   unfolding firstPast
-  earlier-fits j h = ltb-false _ _ (before (λ i. ltb (l .room) (frameEnd l i)) 0 (l .frames) j (omega arith) h)
+  earlier-fits j h = ltb-false _ _ (none-before (λ i. ltb (l .room) (frameEnd l i)) 0 (l .frames) j (omega arith) h)
 
   it-is-past : firstPast l < l .frames → l .room < frameEnd l (firstPast l)
   unfolding firstPast
-  it-is-past h = ltb-true _ _ (holds (λ i. ltb (l .room) (frameEnd l i)) 0 (l .frames) (omega arith))
+  it-is-past h = ltb-true _ _ (first-has (λ i. ltb (l .room) (frameEnd l i)) 0 (l .frames) (omega arith))
 
   -- a first frame ends past the room, or none does
   pub past-or-none : ((firstPast l < l .frames) × FirstPast l (firstPast l)) ⊎ ((l .frames ≤ firstPast l) × NonePast l)
@@ -73,7 +49,7 @@ module _ (l : Layout) where
   first-some i f = (i, f .among, f .past)
 
   -- what is answered then
-  pub placed-past : (i : ℕ) → FirstPast l i → placed l ≡ refused (Past i)
+  pub placed-past : (i : ℕ) → FirstPast l i → placed l ≡ refusedSplit (Past i)
   unfolding placed
   placed-past i f =
       ⊎-elim (λ g. rw (lt-ltb _ _ (g .0), one-first (firstPast l) i (g .1) f))

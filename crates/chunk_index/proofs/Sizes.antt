@@ -10,11 +10,11 @@ use native.Mathlib.Omega.{arith}
 use types.Run.{OneOf}
 use denote.Enum.Declared.{tagOf}
 use lib.ListN.{length}
-use Rattle.part_coded.specs.declared.Little.{Little}
-use Rattle.part_coded.specs.declared.Little.the-variants.{Value}
-use Rattle.part_coded.specs.Little.{little, readLittle}
-use Rattle.part_coded.proofs.Bytes.{little-value}
-use Rattle.part_coded.proofs.Little.{the-type}
+use Rattle.base_little.specs.declared.Little.{Little}
+use Rattle.base_little.specs.declared.Little.the-variants.{Value}
+use Rattle.base_little.specs.Little.{little, readLittle}
+use Rattle.base_little.proofs.Bytes.{little-value}
+use Rattle.base_little.proofs.Little.{the-type}
 use Rattle.chunk_index.specs.Layout.{framesIn, bytesPerSize}
 
 -- size i of n bytes stands before the end of them all

@@ -9,12 +9,12 @@ use native.Mathlib.Numerals.{add-one}
 use native.Mathlib.Omega.{arith}
 use lib.ListN.{length, getD, take, drop, length-append, take-append-drop, drop-of-length-le}
 use lib.Seq.{append-snoc, getD-append-seam, getD-at, drop-cons, take-add, drop-drop, take-append-seam, ext-getD}
-use Rattle.part_coded.specs.Little as Little
-use Rattle.part_coded.specs.Little.{little}
+use Rattle.base_little.specs.Little as Little
+use Rattle.base_little.specs.Little.{little}
 use Rattle.chunk_index.specs.Layout.{framesIn, bytesPerSize, indexBytes, indexStart, lastByte, layoutOf}
 use Rattle.chunk_index.specs.Table.{Cut, Indexed}
-use Rattle.chunk_index.specs.Spelling.{IndexValues, spellLittle, spellSizes, headerByte, spellIndex, Below, InRange, LaidBy}
-use Rattle.chunk_index.proofs.First.{below}
+use Rattle.chunk_index.specs.Spelling.{IndexValues, spellLittle, spellSizes, headerByte, spellIndex, Below, IndexRanged, LaidBy}
+use Rattle.base_shared.proofs.Order.{below}
 use Rattle.chunk_index.proofs.Cases.{layout-indexed}
 
 length-little : (n v : ℕ) → length (spellLittle n v) ≡ n
@@ -51,7 +51,7 @@ size-spelt a b n (z ∷ zs) (suc i) r h =
 last-of : (p : List ℕ) (b : ℕ) → lastByte (p ++ (b ∷ [])) ≡ b
 last-of p b = getD-at p b [] 0 _ (omega (arith, length-append p (b ∷ [])))
 
-module _ (fs : List ℕ) (v : IndexValues) (r : InRange v) where
+module _ (fs : List ℕ) (v : IndexValues) (r : IndexRanged v) where
   length-spelt : length (fs ++ spellIndex v) ≡ length fs + (2 + length (v .sizes) * (v .bytes-minus-1 + 1))
   unfolding spellIndex
   length-spelt = rw (length-append, length-append, length-sizes) (omega arith)
@@ -145,7 +145,7 @@ both-ends s p m b l e f =
     sym (take-append-drop p s) ∙ rw (first, ← last, take-append-drop)
 
 -- a chunk of bytes that has an index ends in the spelling of its values
-pub indexed-spelt : (s : List ℕ) → Below 256 s → Indexed s → (Cut s → ⊥) → (fs : List ℕ) × (v : IndexValues) × InRange v × (s ≡ fs ++ spellIndex v)
+pub indexed-spelt : (s : List ℕ) → Below 256 s → Indexed s → (Cut s → ⊥) → (fs : List ℕ) × (v : IndexValues) × IndexRanged v × (s ≡ fs ++ spellIndex v)
 unfolding spellIndex
 indexed-spelt s bytes i whole =
     let b = lastByte s in
@@ -165,7 +165,7 @@ indexed-spelt s bytes i whole =
     )
 
 -- and no other values' spelling ends it
-pub one-index : (fs gs : List ℕ) (v w : IndexValues) → InRange v → InRange w → fs ++ spellIndex v ≡ gs ++ spellIndex w → (fs ≡ gs) × (v ≡ w)
+pub one-index : (fs gs : List ℕ) (v w : IndexValues) → IndexRanged v → IndexRanged w → fs ++ spellIndex v ≡ gs ++ spellIndex w → (fs ≡ gs) × (v ≡ w)
 one-index fs gs v w r q e =
     let a = spelt-laid fs v r in
     let b : LaidBy (length gs) w (layoutOf (fs ++ spellIndex v)) = rw e (spelt-laid gs w q) in

@@ -13,29 +13,29 @@ use Rattle.chunk_index.specs.declared.Answer.{Answer}
 use Rattle.chunk_index.specs.declared.Answer.the-variants.{Frames, Empty, Short, Past}
 use Rattle.chunk_index.specs.Layout.{marker, lastByte, indexBytes, layoutOf}
 use Rattle.chunk_index.specs.Split.{splitNumber, splitOf}
-use Rattle.chunk_index.specs.Table.{NoBytes, Cut, SomePast, NonePast, When}
+use Rattle.chunk_index.specs.Table.{NoBytes, Cut, SomePast, NonePast, SplitWhen}
 use Rattle.chunk_index.proofs.First.{past-or-none, some-first, first-some, placed-past, placed-none}
 use Rattle.chunk_index.proofs.Cases.{split-empty, split-cut, split-placed}
 
-answered : (s : List ℕ) → When (splitOf s .answer) s
+answered : (s : List ℕ) → SplitWhen (splitOf s .answer) s
 answered s = go (eqb (length s) 0) refl (eqb (marker (lastByte s)) 6) refl (ltb (length s) (indexBytes (lastByte s))) refl
   where
-    placed-answered : (NoBytes s → ⊥) → (Cut s → ⊥) → When (splitOf s .answer) s
+    placed-answered : (NoBytes s → ⊥) → (Cut s → ⊥) → SplitWhen (splitOf s .answer) s
     placed-answered n k =
         rw (split-placed s n k)
         (⊎-elim (λ f. rw (placed-past _ _ (f .1)) (n, k, f .1)) (λ f. rw (placed-none _ (f .1)) (n, k, f .1, refl)) (past-or-none (layoutOf s)))
 
-    go : (a : Bool) → eqb (length s) 0 ≡ a → (b : Bool) → eqb (marker (lastByte s)) 6 ≡ b → (d : Bool) → ltb (length s) (indexBytes (lastByte s)) ≡ d → When (splitOf s .answer) s
+    go : (a : Bool) → eqb (length s) 0 ≡ a → (b : Bool) → eqb (marker (lastByte s)) 6 ≡ b → (d : Bool) → ltb (length s) (indexBytes (lastByte s)) ≡ d → SplitWhen (splitOf s .answer) s
     go true z b m d l = let h : NoBytes s = eqb-true (length s) 0 z in rw (split-empty s h) h
     go false z true m true l = let h : Cut s = (eqb-true (marker (lastByte s)) 6 m, ltb-true (length s) (indexBytes (lastByte s)) l) in rw (split-cut s h) h
     go false z true m false l = placed-answered (eqb-false (length s) 0 z) (λ k. omega (arith, ltb-false (length s) (indexBytes (lastByte s)) l, k .1))
     go false z false m d l = placed-answered (eqb-false (length s) 0 z) (λ k. eqb-false (marker (lastByte s)) 6 m (k .0))
 
 -- an answer is given exactly when the table says so
-pub exactly : (s : List ℕ) (a : Answer) → (splitOf s .answer ≡ a) ↔ When a s
+pub exactly : (s : List ℕ) (a : Answer) → (splitOf s .answer ≡ a) ↔ SplitWhen a s
 exactly s a = (λ e. rw e at (answered s), answer a)
   where
-    answer : (a : Answer) → When a s → splitOf s .answer ≡ a
+    answer : (a : Answer) → SplitWhen a s → splitOf s .answer ≡ a
     answer Empty h = rw (split-empty s h)
     answer Short h = rw (split-cut s h)
     answer (Past i) h = rw (split-placed s (h .0) (h .1), placed-past _ i (h .2))
@@ -43,7 +43,7 @@ exactly s a = (λ e. rw e at (answered s), answer a)
 
 -- the table's lines by their numbers, 0 standing for a chunk that is split
 module _ (s : List ℕ) where
-  says : (a : Answer) → When a s
+  says : (a : Answer) → SplitWhen a s
       → (splitNumber a ≡ 0 → (NoBytes s → ⊥) × (Cut s → ⊥) × NonePast (layoutOf s))
       × (splitNumber a ≡ 1 → NoBytes s)
       × (splitNumber a ≡ 2 → Cut s)

@@ -10,14 +10,15 @@ use native.Mathlib.Numerals.{add-one}
 use native.Mathlib.Omega.{arith}
 use lib.ListN.{length, getD, replicate, length-set, getD-replicate, List·getD-eq-default}
 use lib.Seq.{getD-set-same, getD-set-other}
-use Rattle.base_bits.specs.Syntax.{pick}
+use Rattle.base_shared.specs.Choice.{pick}
 use Rattle.chunk_index.specs.declared.Answer.{Answer}
 use Rattle.chunk_index.specs.declared.Answer.the-variants.{Frames, Empty, Short, Past}
 use Rattle.chunk_index.specs.declared.Split.{Split}
 use Rattle.chunk_index.specs.Layout.{Layout, lastByte, framesIn, indexed, whole, byIndex, start, layoutOf}
-use Rattle.chunk_index.specs.Split.{splitNumber, refused, places, filled, splitOf}
+use Rattle.chunk_index.specs.Split.{splitNumber, refusedSplit, places, filled, splitOf}
 use Rattle.chunk_index.specs.Table.{Indexed, NonePast, Tiles}
-use Rattle.chunk_index.proofs.First.{below, placed-past, placed-none}
+use Rattle.base_shared.proofs.Order.{below}
+use Rattle.chunk_index.proofs.First.{placed-past, placed-none}
 use Rattle.chunk_index.proofs.Cases.{split-empty, split-cut, split-placed, layout-indexed, layout-whole}
 use Rattle.chunk_index.proofs.Table.{exactly}
 
@@ -91,10 +92,10 @@ module _ (s : List ℕ) where
       rw (split-placed s (g .0) (g .1), placed-none _ (g .2)) (laid-out (layoutOf s) frames-range (g .2))
 
   -- a chunk that is refused has no places
-  pub no-places : (splitNumber (splitOf s .answer) ≡ 0 → ⊥) → splitOf s ≡ refused (splitOf s .answer)
+  pub no-places : (splitNumber (splitOf s .answer) ≡ 0 → ⊥) → splitOf s ≡ refusedSplit (splitOf s .answer)
   no-places h = go (splitOf s .answer) refl
     where
-      go : (a : Answer) → splitOf s .answer ≡ a → splitOf s ≡ refused a
+      go : (a : Answer) → splitOf s .answer ≡ a → splitOf s ≡ refusedSplit a
       go Empty e = split-empty s (exactly s Empty .0 e)
       go Short e = split-cut s (exactly s Short .0 e)
       go (Past i) e = let g = exactly s (Past i) .0 e in split-placed s (g .0) (g .1) ∙ placed-past _ i (g .2)

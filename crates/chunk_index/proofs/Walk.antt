@@ -11,7 +11,8 @@ use lib.ListN.{length, set, replicate}
 use borrow.Author.Tests.{lt-ltb, le-ltb}
 use Rattle.chunk_index.specs.declared.Answer.the-variants.{Frames, Past}
 use Rattle.chunk_index.specs.Layout.{Layout, whole, start, frameEnd}
-use Rattle.chunk_index.specs.Split.{refused, filled, first, firstPast, placed}
+use Rattle.base_shared.specs.Lists.{first}
+use Rattle.chunk_index.specs.Split.{refusedSplit, filled, firstPast, placed}
 
 -- i frames are placed, the next one starts at `at`, and the search for one past the room, from here on, gives what the whole search gives
 pub record Walked (l : Layout) (i at : ℕ) (ats sizes : List ℕ) : Type 0 where
@@ -45,7 +46,7 @@ module _ {l : Layout} {i at : ℕ} {ats sizes : List ℕ} (w : Walked l i at ats
           same = (rw (left, le-ltb (l .room) (frameEnd l i) fits) at (w .same));
         }
 
-    pub walked-past : l .room - at < z → refused (Past i) ≡ placed l
+    pub walked-past : l .room - at < z → refusedSplit (Past i) ≡ placed l
     unfolding first placed
     walked-past f =
         let past : l .room < frameEnd l i = omega (arith, w .here) in

@@ -5,8 +5,8 @@ use mathlib.Core.Bool.{Bool, _&&_}
 use mathlib.Core.List.{List}
 use lib.Dec.{eqb, ltb}
 use lib.ListN.{length, getD}
-use Rattle.base_bits.specs.Syntax.{pick}
-use Rattle.part_coded.specs.Little.{little}
+use Rattle.base_shared.specs.Choice.{pick}
+use Rattle.base_little.specs.Little.{little}
 
 -- superframe_header(), a byte: superframe_marker f(3), bytes_per_framesize_minus_1 f(2), frames_in_superframe_minus_1 f(3)
 abbrev pub marker : ℕ → ℕ

@@ -32,7 +32,7 @@ abbrev pub Below : ℕ → List ℕ → Type 0
 Below m [] = Unit
 Below m (z ∷ zs) = (z < m) × Below m zs
 
-pub record InRange (v : IndexValues) : Type 0 where
+pub record IndexRanged (v : IndexValues) : Type 0 where
   pub bytes : v .bytes-minus-1 < 4
   pub some : 0 < length (v .sizes)
   pub most : length (v .sizes) ≤ 8

@@ -5,11 +5,12 @@ use mathlib.Core.Bool.{Bool}
 use mathlib.Core.List.{List}
 use lib.Dec.{eqb, ltb}
 use lib.ListN.{length, set, replicate}
-use Rattle.base_bits.specs.Syntax.{pick}
+use Rattle.base_shared.specs.Choice.{pick}
 use Rattle.chunk_index.specs.declared.Answer.{Answer}
 use Rattle.chunk_index.specs.declared.Answer.the-variants.{Frames, Empty, Short, Past}
 use Rattle.chunk_index.specs.declared.Split.{Split}
 use Rattle.chunk_index.specs.Layout.{Layout, cut, layoutOf, start, frameEnd}
+use Rattle.base_shared.specs.Lists.{first}
 
 -- document 01's number, 0 for a chunk that is split
 abbrev pub splitNumber : Answer → ℕ
@@ -26,18 +27,13 @@ splitFrame Short = 0
 splitFrame (Past i) = i
 
 -- a refusal: no places
-abbrev pub refused : Answer → Split
-refused a = record { answer = a; at = replicate 8 0; size = replicate 8 0 }
+abbrev pub refusedSplit : Answer → Split
+refusedSplit a = record { answer = a; at = replicate 8 0; size = replicate 8 0 }
 
 -- eight entries, the first n of which are f's, and the others d
 unfoldable pub filled : {A : Type 0} → A → (ℕ → A) → ℕ → List A
 filled d f zero = replicate 8 d
 filled d f (suc n) = set (filled d f n) n (f n)
-
--- the first of the n numbers from i on that has p, or i + n if none has
-unfoldable pub first : (ℕ → Bool) → ℕ → ℕ → ℕ
-first p i zero = i
-first p i (suc n) = pick (p i) i (first p (i + 1) n)
 
 -- the first frame that ends past the room, or the number of frames
 unfoldable pub firstPast : Layout → ℕ
@@ -48,8 +44,8 @@ places l = record { answer = Frames (l .frames); at = filled 0 (start (l .size))
 
 -- a frame that ends past the room is refused; else the frames' places
 unfoldable pub placed : Layout → Split
-placed l = pick (ltb (firstPast l) (l .frames)) (refused (Past (firstPast l))) (places l)
+placed l = pick (ltb (firstPast l) (l .frames)) (refusedSplit (Past (firstPast l))) (places l)
 
 -- document 01's order: 1, 2, then 3
 unfoldable pub splitOf : List ℕ → Split
-splitOf s = pick (eqb (length s) 0) (refused Empty) (pick (cut s) (refused Short) (placed (layoutOf s)))
+splitOf s = pick (eqb (length s) 0) (refusedSplit Empty) (pick (cut s) (refusedSplit Short) (placed (layoutOf s)))

@@ -32,11 +32,11 @@ pub record FirstPast (l : Layout) (i : ℕ) : Type 0 where
   pub past : l .room < frameEnd l i
 
 -- when each answer is given, in document 01's order: numbers 1, 2 and 3, and a chunk that is split
-abbrev pub When : Answer → List ℕ → Type 0
-When Empty s = NoBytes s
-When Short s = Cut s
-When (Past i) s = (NoBytes s → ⊥) × (Cut s → ⊥) × FirstPast (layoutOf s) i
-When (Frames n) s = (NoBytes s → ⊥) × (Cut s → ⊥) × NonePast (layoutOf s) × (n ≡ layoutOf s .frames)
+abbrev pub SplitWhen : Answer → List ℕ → Type 0
+SplitWhen Empty s = NoBytes s
+SplitWhen Short s = Cut s
+SplitWhen (Past i) s = (NoBytes s → ⊥) × (Cut s → ⊥) × FirstPast (layoutOf s) i
+SplitWhen (Frames n) s = (NoBytes s → ⊥) × (Cut s → ⊥) × NonePast (layoutOf s) × (n ≡ layoutOf s .frames)
 
 -- the chunk has an index: the first byte of the one that the last byte announces equals it
 abbrev pub Indexed : List ℕ → Type 0

@@ -2,10 +2,10 @@
 ghost use mathlib.Core.Path.{_≡_};
 ghost use Prim.Native.Nat.{_+_, _*_, _≤_};
 ghost use lib.ListN.{length};
-ghost use Rattle.part_coded.specs.Little.{little};
+ghost use Rattle.base_little.specs.Little.{little};
 ghost use Rattle.chunk_index.specs.Layout.{marker, lastByte, laid, whole};
-ghost use Rattle.chunk_index.specs.Split.{refused, placed, splitOf};
-use part_coded::Little;
+ghost use Rattle.chunk_index.specs.Split.{refusedSplit, placed, splitOf};
+use base_little::Little;
 
 pub enum Answer {
     // So many frames.
@@ -25,7 +25,7 @@ pub struct Split {
 }
 
 fn refusal(answer: Answer) -> Split
-    ensures { λ r. ⌜ r ≡ refused answer ⌝ }
+    ensures { λ r. ⌜ r ≡ refusedSplit answer ⌝ }
 {
     Split {
         answer,
@@ -51,7 +51,7 @@ fn read_size(s: &[u8], at: usize, n: usize) -> usize
     requires { ⌜ (n ≤ 4) × (at + n ≤ length (now s)) ⌝ }
     ensures { λ r. ⌜ r ≡ little (now (s .entry)) at n ⌝ }
 {
-    let Little::Value(z) = part_coded::read_little(s, at, n) else {
+    let Little::Value(z) = base_little::read_little(s, at, n) else {
         return 0;
     };
     z as usize

@@ -8,7 +8,7 @@ use lib.ListN.{getD}
 use Rattle.base_types.specs.Header.{defaultHeader}
 use Rattle.base_types.specs.declared.state.ReaderState.{ReaderState}
 use Rattle.grammar_tables.specs.Header.{HeaderValues, Spelled}
-use Rattle.grammar_tables.specs.Record.{headerOf, stateAfter}
+use Rattle.grammar_record.specs.Record.{headerOf, stateAfter}
 use Rattle.header_parser.specs.declared.HeaderRead.{HeaderRead}
 use Rattle.header_parser.proofs.Theorems.{accepts}
 use Rattle.chunk_index.specs.declared.Answer.the-variants as split
@@ -21,7 +21,7 @@ use Rattle.chunk_answer.specs.declared.Answer.the-variants as answer
 use Rattle.chunk_answer.specs.declared.ChunkRead.{ChunkRead}
 use Rattle.chunk_parser.specs.Frames.{stateBefore, frameRead}
 use Rattle.chunk_parser.specs.Answer.{chunkOf}
-use Rattle.chunk_parser.specs.Table.{frameOf, sizesBefore}
+use Rattle.chunk_parser.specs.Table.{frameAt, sizesBefore}
 use Rattle.chunk_parser.proofs.Table.{exactly, accepted-whole}
 
 module _ (s : List ℕ) (st : ReaderState) where
@@ -30,9 +30,9 @@ module _ (s : List ℕ) (st : ReaderState) where
   unfolding stateBefore
   state-first = refl
 
-  pub state-next : (i : ℕ) (v : HeaderValues) → Spelled (sizesBefore s st i) (frameOf s i) v → stateBefore s (splitOf s) st (i + 1) ≡ stateAfter (stateBefore s (splitOf s) st i) v
+  pub state-next : (i : ℕ) (v : HeaderValues) → Spelled (sizesBefore s st i) (frameAt s i) v → stateBefore s (splitOf s) st (i + 1) ≡ stateAfter (stateBefore s (splitOf s) st i) v
   unfolding stateBefore
-  state-next i v h = rw add-one (ap (λ (r : HeaderRead). r .state) (accepts (frameOf s i) (stateBefore s (splitOf s) st i) v h))
+  state-next i v h = rw add-one (ap (λ (r : HeaderRead). r .state) (accepts (frameAt s i) (stateBefore s (splitOf s) st i) v h))
 
   module _ (n : ℕ) (a : chunkOf s st .answer ≡ answer.Frames n) where
     was-split : splitOf s .answer ≡ split.Frames n
@@ -47,13 +47,13 @@ module _ (s : List ℕ) (st : ReaderState) where
     pub state-last : chunkOf s st .state ≡ stateBefore s (splitOf s) st n
     state-last = ap (λ (r : ChunkRead). r .state) (accepted-whole s st n a)
 
-    pub header-in-turn : (i : ℕ) → i < n → (v : HeaderValues) → Spelled (sizesBefore s st i) (frameOf s i) v
+    pub header-in-turn : (i : ℕ) → i < n → (v : HeaderValues) → Spelled (sizesBefore s st i) (frameAt s i) v
         → getD (chunkOf s st .headers) i defaultHeader ≡ headerOf (stateBefore s (splitOf s) st i) v
     unfolding frameRead
     header-in-turn i l v h =
         ap (λ (r : ChunkRead). getD (r .headers) i defaultHeader) (accepted-whole s st n a)
         ∙ filled-at defaultHeader (λ j. frameRead s (splitOf s) st j .header) n i few l
-        ∙ ap (λ (r : HeaderRead). r .header) (accepts (frameOf s i) (stateBefore s (splitOf s) st i) v h)
+        ∙ ap (λ (r : HeaderRead). r .header) (accepts (frameAt s i) (stateBefore s (splitOf s) st i) v h)
 
     pub others-default : (i : ℕ) → n ≤ i → getD (chunkOf s st .headers) i defaultHeader ≡ defaultHeader
     others-default i l =

@@ -14,10 +14,10 @@ use Rattle.chunk_index.proofs.Table.{exactly as split-exactly}
 use Rattle.chunk_answer.specs.declared.Answer.{Answer}
 use Rattle.chunk_answer.specs.declared.Answer.the-variants as answer
 use Rattle.chunk_answer.specs.declared.ChunkRead.{ChunkRead}
-use Rattle.chunk_parser.specs.Frames.{stateBefore, frameRead, Fault, none, fault, firstFault}
+use Rattle.chunk_parser.specs.Frames.{stateBefore, frameRead, FaultFound, none, fault, firstFault}
 use Rattle.chunk_answer.specs.Answer.{chunkNumber, refusedChunk}
 use Rattle.chunk_parser.specs.Answer.{acceptedChunk, answered, chunkBy, chunkOf}
-use Rattle.chunk_parser.specs.Table.{frameOf, EachSpelled, When}
+use Rattle.chunk_parser.specs.Table.{frameAt, EachSpelled, ChunkWhen}
 use Rattle.chunk_parser.proofs.Walk.{verdictAt, by-split}
 use Rattle.chunk_parser.proofs.Fault.{Good, Found, found, one-found}
 
@@ -26,33 +26,33 @@ module _ (s : List ℕ) (st : ReaderState) where
   before i = stateBefore s (splitOf s) st i
 
   -- what is found says, of the headers, what the table says
-  told : (n : ℕ) → splitOf s .answer ≡ split.Frames n → (f : Fault) → Found (verdictAt s st) 0 n f → When (answered (acceptedChunk s (splitOf s) st n) st f .answer) s st
+  told : (n : ℕ) → splitOf s .answer ≡ split.Frames n → (f : FaultFound) → Found (verdictAt s st) 0 n f → ChunkWhen (answered (acceptedChunk s (splitOf s) st n) st f .answer) s st
   unfolding frameRead before
-  told n a none g = (split-exactly s (split.Frames n) .0 a, λ i h. accepted-exactly (frameOf s i) (before i) .0 (g i (omega arith) (omega arith)))
+  told n a none g = (split-exactly s (split.Frames n) .0 a, λ i h. accepted-exactly (frameAt s i) (before i) .0 (g i (omega arith) (omega arith)))
   told n a (fault i e) g = (
     n,
     split-exactly s (split.Frames n) .0 a,
     record {
       among = omega (arith, g .1);
-      earlier = λ j h. accepted-exactly (frameOf s j) (before j) .0 (g .2 j (omega arith) h);
-      fails = refused-exactly (frameOf s i) (before i) e .0 (g .3);
+      earlier = λ j h. accepted-exactly (frameAt s j) (before j) .0 (g .2 j (omega arith) h);
+      fails = refused-exactly (frameAt s i) (before i) e .0 (g .3);
     },
   )
 
   -- and is found if the table says it
   spelled : (n : ℕ) → EachSpelled s st n → Good (verdictAt s st) 0 n
   unfolding frameRead before
-  spelled n h k z l = accepted-exactly (frameOf s k) (before k) .1 (h k l)
+  spelled n h k z l = accepted-exactly (frameAt s k) (before k) .1 (h k l)
 
   all-good : (n : ℕ) → EachSpelled s st n → Found (verdictAt s st) 0 n none
   all-good n h k z l = spelled n h k z (omega arith)
 
-  framed : (n : ℕ) → splitOf s .answer ≡ split.Frames n → (f : Fault) → Found (verdictAt s st) 0 n f → chunkOf s st ≡ answered (acceptedChunk s (splitOf s) st n) st f
+  framed : (n : ℕ) → splitOf s .answer ≡ split.Frames n → (f : FaultFound) → Found (verdictAt s st) 0 n f → chunkOf s st ≡ answered (acceptedChunk s (splitOf s) st n) st f
   framed n a f g =
       let one = one-found (verdictAt s st) 0 n f (firstFault (verdictAt s st) 0 n) g (found (verdictAt s st) 0 n) in
       sym (ap (answered (acceptedChunk s (splitOf s) st n) st) one ∙ by-split s st (split.Frames n) refl a)
 
-  given : (a : Answer) → When a s st → chunkOf s st .answer ≡ a
+  given : (a : Answer) → ChunkWhen a s st → chunkOf s st .answer ≡ a
   unfolding frameRead before
   given answer.Empty h = sym (ap (λ (r : ChunkRead). r .answer) (by-split s st split.Empty refl (split-exactly s split.Empty .1 h)))
   given answer.Short h = sym (ap (λ (r : ChunkRead). r .answer) (by-split s st split.Short refl (split-exactly s split.Short .1 h)))
@@ -61,21 +61,21 @@ module _ (s : List ℕ) (st : ReaderState) where
       let f = h .2 in
       ap (λ (r : ChunkRead). r .answer)
       (framed (h .0) (split-exactly s (split.Frames (h .0)) .1 (h .1)) (fault i e)
-      (omega arith, omega (arith, f .among), spelled i (f .earlier), refused-exactly (frameOf s i) (before i) e .1 (f .fails)))
+      (omega arith, omega (arith, f .among), spelled i (f .earlier), refused-exactly (frameAt s i) (before i) e .1 (f .fails)))
   given (answer.Frames n) h = ap (λ (r : ChunkRead). r .answer) (framed n (split-exactly s (split.Frames n) .1 (h .0)) none (all-good n (h .1)))
 
-  holds : When (chunkOf s st .answer) s st
+  holds : ChunkWhen (chunkOf s st .answer) s st
   unfolding chunkOf
   holds = go (splitOf s .answer) refl
     where
-      go : (a : SplitAnswer) → splitOf s .answer ≡ a → When (chunkBy s (splitOf s) st a .answer) s st
+      go : (a : SplitAnswer) → splitOf s .answer ≡ a → ChunkWhen (chunkBy s (splitOf s) st a .answer) s st
       go split.Empty e = split-exactly s split.Empty .0 e
       go split.Short e = split-exactly s split.Short .0 e
       go (split.Past i) e = split-exactly s (split.Past i) .0 e
       go (split.Frames n) e = told n e (firstFault (verdictAt s st) 0 n) (found (verdictAt s st) 0 n)
 
   -- an answer is given exactly when the table says so
-  pub exactly : (a : Answer) → (chunkOf s st .answer ≡ a) ↔ When a s st
+  pub exactly : (a : Answer) → (chunkOf s st .answer ≡ a) ↔ ChunkWhen a s st
   exactly a = (λ e. rw e at holds, given a)
 
   -- a chunk that is accepted: the places, the headers in turn, and the state that the last frame left
@@ -87,7 +87,7 @@ module _ (s : List ℕ) (st : ReaderState) where
   unfolding chunkOf
   refused-whole h = go (splitOf s .answer) h
     where
-      by : (n : ℕ) (f : Fault) → (chunkNumber (answered (acceptedChunk s (splitOf s) st n) st f .answer) ≡ 0 → ⊥)
+      by : (n : ℕ) (f : FaultFound) → (chunkNumber (answered (acceptedChunk s (splitOf s) st n) st f .answer) ≡ 0 → ⊥)
           → answered (acceptedChunk s (splitOf s) st n) st f ≡ refusedChunk (answered (acceptedChunk s (splitOf s) st n) st f .answer) st
       by n none h = absurd (h refl)
       by n (fault i e) h = refl

@@ -11,7 +11,7 @@ use Rattle.chunk_index.specs.Split.{filled, splitOf}
 use Rattle.chunk_answer.specs.declared.Answer.the-variants as answer
 use Rattle.chunk_answer.specs.declared.ChunkRead.{ChunkRead}
 use Rattle.chunk_answer.specs.Answer.{refusedChunk}
-use Rattle.chunk_parser.specs.Frames.{stateBefore, frameRead, Fault, none, fault, firstFault}
+use Rattle.chunk_parser.specs.Frames.{stateBefore, frameRead, FaultFound, none, fault, firstFault}
 
 -- n frames: their places and headers, and the state after the last
 abbrev pub acceptedChunk : List ℕ → Split → ReaderState → ℕ → ChunkRead
@@ -24,7 +24,7 @@ acceptedChunk s p st n =
       state = stateBefore s p st n;
     }
 
-abbrev pub answered : ChunkRead → ReaderState → Fault → ChunkRead
+abbrev pub answered : ChunkRead → ReaderState → FaultFound → ChunkRead
 answered r st none = r
 answered r st (fault i e) = refusedChunk (answer.Header i e) st
 

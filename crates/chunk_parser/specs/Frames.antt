@@ -25,15 +25,15 @@ unfoldable pub frameRead : List ℕ → Split → ReaderState → ℕ → Header
 frameRead s p st i = parsed (frameBytes s p i) (stateBefore s p st i)
 
 -- whether some header is refused: the first that is, and why
-pub data Fault : Type 0 where
-  none : Fault
-  fault : ℕ → Refusal → Fault
+pub data FaultFound : Type 0 where
+  none : FaultFound
+  fault : ℕ → Refusal → FaultFound
 
-abbrev pub faultAt : ℕ → Verdict → Fault → Fault
+abbrev pub faultAt : ℕ → Verdict → FaultFound → FaultFound
 faultAt i Accepted later = later
 faultAt i (Refused e) later = fault i e
 
 -- the first refusal among n frames from i on, of which v is the verdict
-unfoldable pub firstFault : (ℕ → Verdict) → ℕ → ℕ → Fault
+unfoldable pub firstFault : (ℕ → Verdict) → ℕ → ℕ → FaultFound
 firstFault v i zero = none
 firstFault v i (suc n) = faultAt i (v i) (firstFault v (i + 1) n)

@@ -14,8 +14,9 @@ use Rattle.base_bits.specs.Law.{Any, Reads}
 use Rattle.base_bits.proofs.Fields.{size-append, size-if, size-optional, zeros}
 use Rattle.base_bits.proofs.Laws.{take, take-if, take-by, demand, then, then-as, next-by, next-if, group-if, last, respelt, done}
 use Rattle.base_settings.specs.declared.size.FrameSize.{FrameSize}
-use Rattle.grammar_tables.specs.Tables.{colorFields, sizeFields, renderFields, refFields, refsFields, foundFields, foundAt, deltaFields, loopFilterFields, quantizerFields, probFields, probsFields, featureFields, featuresFields, segmentationFields, runFields, tilesFields, first, least, most}
-use Rattle.grammar_tables.specs.Header.{FrameValues, isKey, isIntra, isColored, sizeOf, sizeFrom, frameSize, frameFields, HeaderValues, profileNumber, showsExisting, headerFields}
+use Rattle.base_shared.specs.Lists.{first}
+use Rattle.grammar_tables.specs.Tables.{colorFields, sizeFields, renderFields, refFields, refsFields, foundFields, foundAt, deltaFields, loopFilterFields, quantizerFields, probFields, probsFields, featureFields, featuresFields, segmentationFields, runFields, tilesFields, least, most}
+use Rattle.grammar_tables.specs.Header.{FrameValues, isKey, isIntra, isColored, sizeOf, sizeFrom, frameSize, frameFields, HeaderValues, headerProfile, showsExisting, headerFields}
 use Rattle.grammar_tables.specs.Reading.{noColor, noRefs, noFound, noSizeValues, readSync, noFrame, readFrame, readHeader}
 use Rattle.grammar_tables.proofs.Laws.{color-reads, color-nil, color-size, size-reads, size-nil, size-size, render-reads, render-size, refs-reads, refs-nil, refs-size, found-reads, found-nil, found-size, loop-filter-reads, loop-filter-size, quantizer-reads, quantizer-size, segmentation-reads, segmentation-size, tiles-reads, tiles-size}
 
@@ -62,7 +63,7 @@ header-reads slots =
     demand (λ (v : HeaderValues). v .frame-marker) (omega arith) λ m.
     take (λ (v : HeaderValues). v .profile-low-bit) λ l.
     take (λ (v : HeaderValues). v .profile-high-bit) λ h.
-    take-if (eqb (h * 2 + l) 3) (λ v. eqb (profileNumber v) 3) (λ v k. rw (k .1, k .0 .1)) _ 1 (λ (v : HeaderValues). v .reserved-zero) λ z.
+    take-if (eqb (h * 2 + l) 3) (λ v. eqb (headerProfile v) 3) (λ v k. rw (k .1, k .0 .1)) _ 1 (λ (v : HeaderValues). v .reserved-zero) λ z.
     take (λ (v : HeaderValues). v .show-existing-frame) λ x.
     respelt (λ v k. rw (k .1, k .0 .0 .1, k .0 .0 .0 .1))
     (take-by (flag x) _ 3 (λ (v : HeaderValues). v .frame-to-show-map-idx) λ i.
@@ -101,7 +102,7 @@ unfolding headerFields
 header-size slots v =
     omega (
       arith,
-      size-if (eqb (profileNumber v) 3) 1,
+      size-if (eqb (headerProfile v) 3) 1,
       size-if (showsExisting v) 3,
-      size-optional (not (showsExisting v)) (frameFields slots (profileNumber v) (v .frame)) 735 (frame-size slots (profileNumber v) (v .frame)),
+      size-optional (not (showsExisting v)) (frameFields slots (headerProfile v) (v .frame)) 735 (frame-size slots (headerProfile v) (v .frame)),
     )

@@ -9,7 +9,8 @@ use native.Mathlib.Omega.{arith}
 use lib.Dec.{eqb}
 use borrow.Author.Tests.{eqb-true, eqb-false}
 use Rattle.base_bits.specs.Refusal.{Name, the, item}
-use Rattle.base_bits.specs.Syntax.{fld, flag, pick, size, Ranged}
+use Rattle.base_shared.specs.Choice.{pick}
+use Rattle.base_bits.specs.Syntax.{fld, flag, size, Ranged}
 use Rattle.base_bits.specs.Many.{Times, manyFields}
 use Rattle.base_bits.specs.Law.{Any, Reads}
 use Rattle.base_bits.proofs.Fields.{size-append, size-if, size-optional, zeros}

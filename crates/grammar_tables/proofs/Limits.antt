@@ -8,42 +8,15 @@ use native.Mathlib.Nat.{add-zero, add-suc, suc-add, pow-succ', le-antisymm, eq-o
 use native.Mathlib.Omega.{arith}
 use lib.Pow.{pow-pos, shr-shr}
 use borrow.Author.Tests.{leb-true, leb-false, ltb-true, ltb-false, le-leb, lt-ltb}
-use Rattle.base_bits.specs.Syntax.{pick}
+use Rattle.base_shared.specs.Choice.{pick}
 use Rattle.grammar_tables.specs.Limits.{reaches, falls, Smallest, Largest}
-use Rattle.grammar_tables.specs.Tables.{superblocks, first, least, most}
+use Rattle.base_shared.specs.Lists.{first}
+use Rattle.grammar_tables.specs.Tables.{superblocks, least, most}
+use Rattle.base_shared.proofs.First.{first-le, first-has-end, none-before}
 
 -- VP9 counts blocks of 8 first, MiCols, and then Sb64Cols: compute_image_size() (VP9 6.2.6)
 pub by-blocks : (width : ℕ) → superblocks width ≡ ((width + 7) / 8 + 7) / 8
 by-blocks width = omega arith
-
--- the first number that has t: it is among those that are tried, it has t if the one past them has, and none before it has
-module _ (t : ℕ → Bool) where
-  first-le : (n k : ℕ) → first t n k ≤ k + n
-  unfolding first
-  first-le zero k = omega arith
-  first-le (suc n) k = go (t k) (first-le n (suc k))
-    where
-      go : (b : Bool) → first t n (suc k) ≤ suc k + n → pick b k (first t n (suc k)) ≤ k + suc n
-      go true h = omega arith
-      go false h = omega arith
-
-  first-has : (n k : ℕ) → t (k + n) ≡ true → t (first t n k) ≡ true
-  unfolding first
-  first-has zero k h = rw add-zero at h
-  first-has (suc n) k h = go (t k) refl (first-has n (suc k) (rw (add-suc, ← suc-add) at h))
-    where
-      go : (b : Bool) → t k ≡ b → t (first t n (suc k)) ≡ true → t (pick b k (first t n (suc k))) ≡ true
-      go true e later = e
-      go false e later = later
-
-  none-before : (n k j : ℕ) → k ≤ j → j < first t n k → t j ≡ false
-  unfolding first
-  none-before zero k j l h = absurd (omega arith)
-  none-before (suc n) k j l h = go (t k) refl (none-before n (suc k) j) h
-    where
-      go : (b : Bool) → t k ≡ b → (k < j → j < first t n (suc k) → t j ≡ false) → j < pick b k (first t n (suc k)) → t j ≡ false
-      go true e later h = absurd (omega arith)
-      go false e later h = ⊎-elim (λ kj. rw (← kj) e) (λ less. later less h) (eq-or-lt-of-le l)
 
 pub unless : (j k : ℕ) → (k < j → ⊥) → j ≤ k
 unless j k h = omega arith
@@ -82,15 +55,15 @@ module _ (w : ℕ) (small : w < 2 ^ 32) where
   pub least-smallest : Smallest w (least w)
   unfolding least
   least-smallest = record {
-    enough = leb-true _ _ (first-has (reaches w) 32 0 (le-leb w (64 * 2 ^ 32) (omega arith)));
-    none-less = λ j h. leb-false _ _ (none-before (reaches w) 32 0 j zero-le h);
+    enough = leb-true _ _ (first-has-end (reaches w) 0 32 (le-leb w (64 * 2 ^ 32) (omega arith)));
+    none-less = λ j h. leb-false _ _ (none-before (reaches w) 0 32 j zero-le h);
   }
 
   pub most-largest : Largest w (most w)
   unfolding most
   most-largest =
-      ended _ (ltb-true _ _ (first-has (falls w) 32 0 (lt-ltb (w / 2 ^ 33) 4 (omega arith))))
-      (λ j h. ltb-false _ _ (none-before (falls w) 32 0 j zero-le h))
+      ended _ (ltb-true _ _ (first-has-end (falls w) 0 32 (lt-ltb (w / 2 ^ 33) 4 (omega arith))))
+      (λ j h. ltb-false _ _ (none-before (falls w) 0 32 j zero-le h))
     where
       ended : (k : ℕ) → w / 2 ^ suc k < 4 → ((j : ℕ) → j < k → 4 ≤ w / 2 ^ suc j) → Largest w k
       ended k few none = record {
@@ -110,4 +83,4 @@ width-limits width h =
 
 pub most-le : (w : ℕ) → most w ≤ 32
 unfolding most
-most-le w = first-le (falls w) 32 0
+most-le w = first-le (falls w) 0 32

@@ -8,7 +8,8 @@ use lib.Dec.{eqb, ltb}
 use lib.ListN.{getD}
 use Rattle.base_bits.specs.Bit.{Begins}
 use Rattle.base_bits.specs.Refusal.{the, frameMarker, syncCode}
-use Rattle.base_bits.specs.Syntax.{Field, fld, fixed, flag, pick, fldIf, optional, flat, Ranged, _then_}
+use Rattle.base_shared.specs.Choice.{pick}
+use Rattle.base_bits.specs.Syntax.{Field, fld, fixed, flag, fldIf, optional, flat, Ranged, _then_}
 use Rattle.base_settings.specs.FrameSize.{noSize}
 use Rattle.base_settings.specs.declared.size.FrameSize.{FrameSize}
 use Rattle.grammar_tables.specs.Tables.{ColorValues, colorFields, SizeValues, sizeFields, RenderValues, renderFields, RefsValues, refsFields, FoundValues, foundFields, foundAt, LoopFilterValues, loopFilterFields, QuantizerValues, quantizerFields, SegmentationValues, segmentationFields, TilesValues, tilesFields}
@@ -98,8 +99,8 @@ frameFields slots profile v =
     then tilesFields (frameSize slots v .width) (v .tiles)
     then fld (the "header_size_in_bytes") 16 (v .header-size-in-bytes) ∷ []
 
-abbrev pub profileNumber : HeaderValues → ℕ
-profileNumber v = v .profile-high-bit * 2 + v .profile-low-bit
+abbrev pub headerProfile : HeaderValues → ℕ
+headerProfile v = v .profile-high-bit * 2 + v .profile-low-bit
 
 -- show_existing_frame names a slot, and nothing follows
 abbrev pub showsExisting : HeaderValues → Bool
@@ -110,10 +111,10 @@ headerFields slots v =
     fixed (the "frame_marker") 2 2 frameMarker (v .frame-marker)
     ∷ fld (the "profile_low_bit") 1 (v .profile-low-bit)
     ∷ fld (the "profile_high_bit") 1 (v .profile-high-bit)
-    ∷ fldIf (eqb (profileNumber v) 3) (the "reserved_zero") 1 (v .reserved-zero)
+    ∷ fldIf (eqb (headerProfile v) 3) (the "reserved_zero") 1 (v .reserved-zero)
     ∷ fld (the "show_existing_frame") 1 (v .show-existing-frame)
     ∷ fldIf (showsExisting v) (the "frame_to_show_map_idx") 3 (v .frame-to-show-map-idx)
-    ∷ optional (not (showsExisting v)) (frameFields slots (profileNumber v) (v .frame))
+    ∷ optional (not (showsExisting v)) (frameFields slots (headerProfile v) (v .frame))
 
 -- under the remembered sizes, the frame's bits begin with the spelling of the values v, each in range: one that isn't there has no bits, and is 0
 pub record Spelled (slots : List FrameSize) (s : List ℕ) (v : HeaderValues) : Type 0 where

@@ -7,7 +7,8 @@ use mathlib.Core.Bool.{not, _&&_, _||_}
 use mathlib.Core.List.{List}
 use lib.Dec.{eqb, ltb}
 use Rattle.base_bits.specs.Refusal.{Name, the, item, frameMarker, syncCode}
-use Rattle.base_bits.specs.Syntax.{flag, pick}
+use Rattle.base_shared.specs.Choice.{pick}
+use Rattle.base_bits.specs.Syntax.{flag}
 use Rattle.base_bits.specs.Reader.{Reader, give, _>>=_, field, must, groupIf, fieldIf}
 use Rattle.base_bits.specs.Many.{Times, times, many}
 use Rattle.base_settings.specs.declared.size.FrameSize.{FrameSize}
@@ -51,11 +52,11 @@ readRender = do
   give (record { render-and-frame-size-different = d; size = z })
 
 -- the references, and found_ref
-abbrev pub noRef : RefValues
-noRef = record { ref-frame-idx = 0; ref-frame-sign-bias = 0 }
+abbrev pub noRefValues : RefValues
+noRefValues = record { ref-frame-idx = 0; ref-frame-sign-bias = 0 }
 
 abbrev pub noRefs : RefsValues
-noRefs = record { last = noRef; golden = noRef; altref = noRef }
+noRefs = record { last = noRefValues; golden = noRefValues; altref = noRefValues }
 
 abbrev pub noFound : FoundValues
 noFound = record { last = 0; golden = 0; altref = 0 }

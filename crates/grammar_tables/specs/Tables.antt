@@ -7,8 +7,10 @@ use mathlib.Core.List.{List, [], _∷_}
 use lib.Dec.{eqb, leb, ltb}
 use lib.ListN.{getD}
 use Rattle.base_bits.specs.Refusal.{Name, the, item}
-use Rattle.base_bits.specs.Syntax.{Field, fld, flag, pick, fldIf, optional, _then_}
+use Rattle.base_shared.specs.Choice.{pick}
+use Rattle.base_bits.specs.Syntax.{Field, fld, flag, fldIf, optional, _then_}
 use Rattle.base_bits.specs.Many.{Times, manyFields}
+use Rattle.base_shared.specs.Lists.{first}
 
 -- color_config() (6.2.2), for a profile: profiles 2 and 3 code the depth, and 1 and 3 the subsampling, unless the colour space is RGB, which has no range either
 pub record ColorValues : Type 0 where
@@ -207,16 +209,11 @@ runFields x i (suc n) (suc k) = fld (item x i) 1 1 ∷ runFields x (i + 1) n k
 abbrev pub superblocks : ℕ → ℕ
 superblocks width = (width + 63) / 64
 
--- of the n numbers from k on, the first that has t; the one past them where none has it
-unfoldable pub first : (ℕ → Bool) → ℕ → ℕ → ℕ
-first t zero k = k
-first t (suc n) k = pick (t k) k (first t n (suc k))
-
 unfoldable pub least : ℕ → ℕ
-least w = first (λ k. leb w (64 * 2 ^ k)) 32 0
+least w = first (λ k. leb w (64 * 2 ^ k)) 0 32
 
 unfoldable pub most : ℕ → ℕ
-most w = first (λ k. ltb (w / 2 ^ suc k) 4) 32 0
+most w = first (λ k. ltb (w / 2 ^ suc k) 4) 0 32
 
 -- tile_info() (6.2.13), for a frame's width; of increment_tile_cols_log2, how many are 1
 pub record TilesValues : Type 0 where

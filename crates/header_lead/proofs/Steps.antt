@@ -17,7 +17,7 @@ use Rattle.header_lead.specs.declared.Shot.{Shot}
 use Rattle.header_lead.specs.declared.ShotRead.{ShotRead}
 use Rattle.header_lead.specs.declared.ShotRead.the-variants.{Value as Shoots, Refused as ShootsNot}
 use Rattle.header_lead.specs.Shot.{ShotValues, readShot, shotOf, viewShot}
-use Rattle.header_lead.specs.Lead.{isKey, isShown, isResilient, leadOf}
+use Rattle.header_lead.specs.Lead.{leadIsKey, isShown, isResilient, leadOf}
 
 -- the flag that a record of traits has is the values' one
 pub resilient-as : (t : Traits) (a : TraitsValues) → t ≡ traitsOf a → t .«error_resilient_mode» ≡ isResilient a
@@ -28,19 +28,19 @@ module _ {B D : Type 0} (s : List ℕ) (p : ℕ) (f : B → D) (profile : ℕ) (
   -- of a frame whose traits were read before
   module _ (t : Traits) (v : TraitsValues) (tv : t ≡ traitsOf v) (r : ShotRead) (k : ShotValues → ℕ → Read B)
       (e : viewShot r ≡ over (shotOf profile (t .key) color slots) (readShot profile (t .key) (t .«show_frame») (t .«error_resilient_mode») s p)) where
-    said : viewShot r ≡ over (shotOf profile (isKey v) color slots) (readShot profile (isKey v) (isShown v) (isResilient v) s p)
+    said : viewShot r ≡ over (shotOf profile (leadIsKey v) color slots) (readShot profile (leadIsKey v) (isShown v) (isResilient v) s p)
     unfolding traitsOf
     said = rw tv at e
 
-    pub shot-step : (x : Shot) (c : Cursor) (o : Got D) → r ≡ Shoots x c → ((a : ShotValues) → x ≡ shotOf profile (isKey v) color slots a → o ≡ over f (k a (c .at))) → o ≡ over f (bind (readShot profile (isKey v) (isShown v) (isResilient v) s p) k)
-    shot-step x c o h y = group-step (shotOf profile (isKey v) color slots) (readShot profile (isKey v) (isShown v) (isResilient v) s p) f k x (c .at) o (rw h at said) y
+    pub shot-step : (x : Shot) (c : Cursor) (o : Got D) → r ≡ Shoots x c → ((a : ShotValues) → x ≡ shotOf profile (leadIsKey v) color slots a → o ≡ over f (k a (c .at))) → o ≡ over f (bind (readShot profile (leadIsKey v) (isShown v) (isResilient v) s p) k)
+    shot-step x c o h y = group-step (shotOf profile (leadIsKey v) color slots) (readShot profile (leadIsKey v) (isShown v) (isResilient v) s p) f k x (c .at) o (rw h at said) y
 
-    pub shot-stop : (u : Refusal) → r ≡ ShootsNot u → refused u ≡ over f (bind (readShot profile (isKey v) (isShown v) (isResilient v) s p) k)
-    shot-stop u h = group-stop (shotOf profile (isKey v) color slots) (readShot profile (isKey v) (isShown v) (isResilient v) s p) f k u (rw h at said)
+    pub shot-stop : (u : Refusal) → r ≡ ShootsNot u → refused u ≡ over f (bind (readShot profile (leadIsKey v) (isShown v) (isResilient v) s p) k)
+    shot-stop u h = group-stop (shotOf profile (leadIsKey v) color slots) (readShot profile (leadIsKey v) (isShown v) (isResilient v) s p) f k u (rw h at said)
 
 -- the record that the code makes
 pub lead-read : (profile : ℕ) (color : Color) (slots : List FrameSize) (p : ℕ) (t : Traits) (h : Shot) (x : Context) (a : TraitsValues) (b : ShotValues) (d : ContextValues)
-    → t ≡ traitsOf a → h ≡ shotOf profile (isKey a) color slots b → x ≡ contextOf (isResilient a) d
+    → t ≡ traitsOf a → h ≡ shotOf profile (leadIsKey a) color slots b → x ≡ contextOf (isResilient a) d
     → got (record { traits = t; shot = h; context = x }) p ≡ got (leadOf profile color slots (record { traits = a; shot = b; context = d })) p
 unfolding leadOf
 lead-read profile color slots p t h x a b d et eh ex = rw (et, eh, ex)

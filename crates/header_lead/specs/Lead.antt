@@ -21,8 +21,8 @@ pub record LeadValues : Type 0 where
   pub context : ContextValues
 
 -- a key frame has type 0
-abbrev pub isKey : TraitsValues → Bool
-isKey t = eqb (t .frame-type) 0
+abbrev pub leadIsKey : TraitsValues → Bool
+leadIsKey t = eqb (t .frame-type) 0
 
 abbrev pub isShown : TraitsValues → Bool
 isShown t = flag (t .show-frame)
@@ -31,14 +31,14 @@ abbrev pub isResilient : TraitsValues → Bool
 isResilient t = flag (t .error-resilient-mode)
 
 -- an intra or error-resilient frame owes nothing to earlier ones: setup_past_independence()
-abbrev pub isIndependent : LeadValues → Bool
-isIndependent v = isKey (v .traits) || (isIntraOnly (v .shot) || isResilient (v .traits))
+abbrev pub leadIsIndependent : LeadValues → Bool
+leadIsIndependent v = leadIsKey (v .traits) || (isIntraOnly (v .shot) || isResilient (v .traits))
 
 -- reading
 unfoldable pub readLead : ℕ → Reader LeadValues
 readLead profile = do
   t ← readTraits
-  h ← readShot profile (isKey t) (isShown t) (isResilient t)
+  h ← readShot profile (leadIsKey t) (isShown t) (isResilient t)
   x ← readContext (isResilient t)
   give (record { traits = t; shot = h; context = x })
 
@@ -47,7 +47,7 @@ unfoldable pub leadOf : ℕ → Color → List FrameSize → LeadValues → Lead
 leadOf profile color slots v =
     record {
       traits = traitsOf (v .traits);
-      shot = shotOf profile (isKey (v .traits)) color slots (v .shot);
+      shot = shotOf profile (leadIsKey (v .traits)) color slots (v .shot);
       context = contextOf (isResilient (v .traits)) (v .context);
     }
 

@@ -3,7 +3,8 @@
 use Prim.Native.Nat.{ℕ}
 use mathlib.Core.Bool.{Bool, not, _&&_}
 use mathlib.Core.List.{List}
-use Rattle.base_bits.specs.Syntax.{flag, pick}
+use Rattle.base_shared.specs.Choice.{pick}
+use Rattle.base_bits.specs.Syntax.{flag}
 use Rattle.base_bits.specs.Reader.{Got, got, refused, Reader, give, _>>=_, groupIf}
 use Rattle.base_settings.specs.declared.size.FrameSize.{FrameSize}
 use Rattle.part_traits.specs.Kind.{KindValues, noKind, readKind, kindOf}

@@ -6,14 +6,15 @@ use mathlib.Core.Bool.{not}
 use mathlib.Core.List.{List}
 use lib.Dec.{eqb}
 use Rattle.base_bits.specs.Refusal.{the}
-use Rattle.base_bits.specs.Syntax.{flag, pick}
+use Rattle.base_shared.specs.Choice.{pick}
+use Rattle.base_bits.specs.Syntax.{flag}
 use Rattle.base_bits.specs.Reader.{Read, read, bind, field, groupIf, fieldIf}
 use Rattle.base_bits.proofs.Binds.{bind-assoc, bind-same, split}
 use Rattle.base_settings.specs.declared.size.FrameSize.{FrameSize}
 use Rattle.grammar_tables.specs.Tables.{foundAt}
 use Rattle.grammar_tables.specs.Header.{FrameValues, HeaderValues, sizeFrom}
 use Rattle.grammar_tables.specs.Reading.{noColor, noRefs, noFound, readFrame, readHeader, noFrame}
-use Rattle.part_opening.specs.Profile.{profileNumber, readProfile}
+use Rattle.part_opening.specs.Profile.{openingProfile, readProfile}
 use Rattle.part_opening.specs.Opening.{OpeningValues, readOpening}
 use Rattle.part_traits.specs.Traits.{readTraits}
 use Rattle.part_traits.specs.Kind.{readKind}
@@ -111,6 +112,6 @@ flatHeader o f =
 -- the opening is read first, and then a frame that isn't shown from a slot
 pub opening-first : (slots : List FrameSize) (s : List ℕ) (p : ℕ)
     → readHeader slots s p
-    ≡ bind (readOpening s p) (λ o q. bind (groupIf (not (flag (o .show-existing-frame))) noFrame (readFrame slots (profileNumber (o .profile))) s q) (λ f t. read (flatHeader o f) t))
+    ≡ bind (readOpening s p) (λ o q. bind (groupIf (not (flag (o .show-existing-frame))) noFrame (readFrame slots (openingProfile (o .profile))) s q) (λ f t. read (flatHeader o f) t))
 unfolding readHeader readOpening readProfile
 opening-first slots s p = simp bind-assoc

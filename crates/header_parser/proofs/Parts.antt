@@ -9,14 +9,15 @@ use Rattle.base_bits.specs.declared.Next.the-variants.{At, Refused as Stop}
 use Rattle.base_bits.specs.declared.Refusal.{Refusal}
 use Rattle.base_bits.specs.declared.Refusal.the-variants.{PastEnd}
 use Rattle.base_bits.specs.Reader.{over}
-use Rattle.base_bits.specs.Syntax.{flag, pick}
+use Rattle.base_shared.specs.Choice.{pick}
+use Rattle.base_bits.specs.Syntax.{flag}
 use Rattle.base_bits.proofs.Steps.{gave, lacked}
 use Rattle.base_types.specs.declared.header.Header.{Header}
 use Rattle.base_types.specs.declared.state.ReaderState.{ReaderState}
 use Rattle.part_opening.specs.declared.Opening.{Opening}
 use Rattle.part_opening.specs.declared.OpeningRead.{OpeningRead}
 use Rattle.part_opening.specs.declared.OpeningRead.the-variants.{Value as Opens, Refused as NotOpen}
-use Rattle.part_opening.specs.Profile.{profileNumber}
+use Rattle.part_opening.specs.Profile.{openingProfile}
 use Rattle.part_opening.specs.Opening.{readOpening, openingOf, viewOpening}
 use Rattle.part_color.specs.declared.Color.{Color}
 use Rattle.header_lead.specs.declared.Lead.{Lead}
@@ -31,7 +32,7 @@ use Rattle.header_tail.specs.declared.ClosingRead.the-variants.{Value as Closes
 use Rattle.header_tail.specs.Settings.{readSettings, startingFilter, startingSegmentation, settingsOf, SettingsAre}
 use Rattle.header_tail.specs.Closing.{readClosing, closingOf, viewClosing}
 use Rattle.header_tail.proofs.Steps.{closing-got, closing-short}
-use Rattle.header_record.specs.Record.{independent, cutLength, frameHeader}
+use Rattle.header_record.specs.Record.{independent, cutLength, frameRecord}
 use Rattle.header_state.specs.State.{frameState}
 use Rattle.header_parser.specs.declared.HeaderRead.{HeaderRead}
 use Rattle.header_parser.specs.Parts.{rememberedColor, widthOf, finished, settled, framed, shownHeader}
@@ -44,7 +45,7 @@ module _ (st : ReaderState) (profile : ℕ) (s : List ℕ) (p : ℕ) where
       pub finish-short : (y : HeaderRead) → r ≡ Short → y ≡ refusedWith st PastEnd → y ≡ finished st profile l g s p
       finish-short y h ey = came-not st (closingOf (widthOf l)) (readClosing (widthOf l) s p) _ PastEnd y ey (closing-short r e h)
 
-      pub finish-read : (v : Closing) (c : Cursor) (h : Header) (x : ReaderState) → r ≡ Closes v c → h ≡ frameHeader profile l g v (cutLength (c .at)) → x ≡ frameState st profile l g → accepted h x ≡ finished st profile l g s p
+      pub finish-read : (v : Closing) (c : Cursor) (h : Header) (x : ReaderState) → r ≡ Closes v c → h ≡ frameRecord profile l g v (cutLength (c .at)) → x ≡ frameState st profile l g → accepted h x ≡ finished st profile l g s p
       finish-read v c h x t eh ex = came st (closingOf (widthOf l)) (readClosing (widthOf l) s p) _ v (c .at) _ (closing-got r v c e t) (λ a ea. rw (eh, ex, ea))
 
     module _ (b : Bool) (eb : b ≡ independent l) (r : SettingsRead) (e : SettingsAre s p (startingFilter b (st .lf)) (startingSegmentation b (st .seg)) r) where
@@ -66,7 +67,7 @@ module _ (st : ReaderState) (profile : ℕ) (s : List ℕ) (p : ℕ) where
 
 -- the whole, after its opening
 abbrev pub opened : List ℕ → ReaderState → HeaderRead
-opened s st = outcome st (λ o p. pick (flag (o .show-existing-frame)) (accepted (shownHeader (openingOf o)) st) (framed st (profileNumber (o .profile)) s p)) (readOpening s 0)
+opened s st = outcome st (λ o p. pick (flag (o .show-existing-frame)) (accepted (shownHeader (openingOf o)) st) (framed st (openingProfile (o .profile)) s p)) (readOpening s 0)
 
 module _ (s : List ℕ) (st : ReaderState) (x : Cursor) (ex : x ≡ record { at = 0 }) (r : OpeningRead) (e₀ : viewOpening r ≡ over openingOf (readOpening s (x .at))) where
   e : viewOpening r ≡ over openingOf (readOpening s 0)

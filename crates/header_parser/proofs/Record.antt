@@ -26,15 +26,15 @@ use Rattle.header_picture.specs.IntraOnly.{intraOnlyOf}
 use Rattle.header_inter.specs.Inter.{interOf}
 use Rattle.header_lead.specs.declared.Lead.{Lead}
 use Rattle.header_lead.specs.Shot.{shotOf}
-use Rattle.header_lead.specs.Lead.{LeadValues, isIndependent, leadOf}
+use Rattle.header_lead.specs.Lead.{LeadValues, leadIsIndependent, leadOf}
 use Rattle.header_tail.specs.declared.Settings.{Settings}
 use Rattle.header_tail.specs.Settings.{SettingsValues, settingsOver, settingsOf}
 use Rattle.header_tail.specs.Closing.{ClosingValues, closingOf}
-use Rattle.header_record.specs.Record.{frameHeader}
+use Rattle.header_record.specs.Record.{frameRecord}
 use Rattle.header_state.specs.State.{frameState}
 use Rattle.grammar_tables.specs.Tables.{foundAt}
-use Rattle.grammar_tables.specs.Settings.{loopFilterOf, segmentationOf}
-use Rattle.grammar_tables.specs.Record.{frameOf, stateFrom}
+use Rattle.grammar_settings.specs.Settings.{loopFilterOf, segmentationOf}
+use Rattle.grammar_record.specs.Record.{frameOf, stateFrom}
 use Rattle.header_parser.specs.Parts.{rememberedColor}
 use Rattle.header_parser.proofs.Flat.{flatFrame, widthFrom}
 
@@ -46,16 +46,16 @@ module _ (st : ReaderState) (profile : ℕ) (l : LeadValues) (g : SettingsValues
   lead = leadOf profile (rememberedColor st) slots l
 
   abbrev settings : Settings
-  settings = settingsOf (isIndependent l) (st .lf) (st .seg) g
+  settings = settingsOf (leadIsIndependent l) (st .lf) (st .seg) g
 
-  pub frame-parts : (n : ℕ) → frameOf st profile (flatFrame l g c) n ≡ frameHeader profile lead settings (closingOf (widthFrom slots l) c) n
-  unfolding frameOf frameHeader leadOf traitsOf shotOf kindOf contextOf colorOf intraColorOf keyOf intraOnlyOf interOf sizesOf withRender renderOf sizeWithRefsOf sourcesOf refsOf refOf motionOf filterOf settingsOver closingOf tilesOf foundAt loopFilterOf segmentationOf
+  pub frame-parts : (n : ℕ) → frameOf st profile (flatFrame l g c) n ≡ frameRecord profile lead settings (closingOf (widthFrom slots l) c) n
+  unfolding frameOf frameRecord leadOf traitsOf shotOf kindOf contextOf colorOf intraColorOf keyOf intraOnlyOf interOf sizesOf withRender renderOf sizeWithRefsOf sourcesOf refsOf refOf motionOf filterOf settingsOver closingOf tilesOf foundAt loopFilterOf segmentationOf
   frame-parts n =
-      split (eqb (l .traits .frame-type) 0) (λ key. simp (key, widthFrom, isIndependent)) λ other.
+      split (eqb (l .traits .frame-type) 0) (λ key. simp (key, widthFrom, leadIsIndependent)) λ other.
       split (flag (l .shot .kind .intra-only))
-      (λ only. split (ltb 0 profile) (λ coded. simp (other, only, coded, widthFrom, isIndependent)) (λ fixed. simp (other, only, fixed, widthFrom, isIndependent))) λ inter.
-      split (flag (l .traits .error-resilient-mode)) (λ alone. simp (other, inter, alone, widthFrom, isIndependent)) (λ kept. simp (other, inter, kept, widthFrom, isIndependent))
+      (λ only. split (ltb 0 profile) (λ coded. simp (other, only, coded, widthFrom, leadIsIndependent)) (λ fixed. simp (other, only, fixed, widthFrom, leadIsIndependent))) λ inter.
+      split (flag (l .traits .error-resilient-mode)) (λ alone. simp (other, inter, alone, widthFrom, leadIsIndependent)) (λ kept. simp (other, inter, kept, widthFrom, leadIsIndependent))
 
   pub state-parts : (n : ℕ) → stateFrom st profile (flatFrame l g c) (frameOf st profile (flatFrame l g c) n) ≡ frameState st profile lead settings
-  unfolding stateFrom frameState frameHeader leadOf shotOf kindOf
+  unfolding stateFrom frameState frameRecord leadOf shotOf kindOf
   state-parts n = rw (frame-parts n)

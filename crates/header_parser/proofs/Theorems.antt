@@ -23,7 +23,7 @@ use Rattle.base_types.specs.declared.state.ReaderState.{ReaderState}
 use Rattle.header_verdict.specs.declared.Verdict.{Verdict}
 use Rattle.header_verdict.specs.declared.Verdict.the-variants.{Accepted, Refused}
 use Rattle.grammar_tables.specs.Header.{HeaderValues, showsExisting, headerFields, Spelled}
-use Rattle.grammar_tables.specs.Record.{lengthOf, frameOf, headerOf, stateAfter}
+use Rattle.grammar_record.specs.Record.{lengthOf, frameOf, headerOf, stateAfter}
 use Rattle.grammar_tables.specs.Reading.{readHeader}
 use Rattle.grammar_tables.proofs.Header.{header-reads, header-size}
 use Rattle.header_parser.specs.Answer.{accepted, refusedWith, outcome, parsed}

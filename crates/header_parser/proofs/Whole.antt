@@ -7,7 +7,8 @@ use mathlib.Core.List.{List}
 use native.Mathlib.Omega.{arith}
 use lib.Dec.{eqb}
 use lib.ListN.{length}
-use Rattle.base_bits.specs.Syntax.{flag, pick, flat}
+use Rattle.base_shared.specs.Choice.{pick}
+use Rattle.base_bits.specs.Syntax.{flag, flat}
 use Rattle.base_bits.specs.Reader.{read, bind, groupIf}
 use Rattle.base_bits.proofs.Fields.{length-flat}
 use Rattle.base_bits.proofs.Binds.{split}
@@ -15,7 +16,7 @@ use Rattle.base_settings.specs.declared.size.FrameSize.{FrameSize}
 use Rattle.base_types.specs.declared.state.ReaderState.{ReaderState}
 use Rattle.part_traits.specs.Traits.{traitsOf}
 use Rattle.part_traits.specs.Kind.{kindOf}
-use Rattle.part_opening.specs.Profile.{profileNumber}
+use Rattle.part_opening.specs.Profile.{openingProfile}
 use Rattle.part_opening.specs.Opening.{OpeningValues, readOpening, openingOf}
 use Rattle.part_sizes.specs.Sizes.{sizesOf, withRender}
 use Rattle.part_refs.specs.Refs.{refOf, refsOf}
@@ -26,14 +27,14 @@ use Rattle.header_picture.specs.IntraOnly.{intraOnlyOf}
 use Rattle.header_inter.specs.Inter.{interOf}
 use Rattle.header_lead.specs.declared.Lead.{Lead}
 use Rattle.header_lead.specs.Shot.{shotOf}
-use Rattle.header_lead.specs.Lead.{LeadValues, readLead, isIndependent, leadOf}
+use Rattle.header_lead.specs.Lead.{LeadValues, readLead, leadIsIndependent, leadOf}
 use Rattle.header_tail.specs.Settings.{SettingsValues, readSettings, settingsOf}
 use Rattle.header_tail.specs.Closing.{ClosingValues, readClosing, closingOf}
-use Rattle.header_record.specs.Record.{independent, cutLength, frameHeader}
+use Rattle.header_record.specs.Record.{independent, cutLength, frameRecord}
 use Rattle.header_state.specs.State.{frameState}
 use Rattle.grammar_tables.specs.Tables.{foundAt}
 use Rattle.grammar_tables.specs.Header.{HeaderValues, headerFields}
-use Rattle.grammar_tables.specs.Record.{lengthOf, headerOf, stateAfter}
+use Rattle.grammar_record.specs.Record.{lengthOf, headerOf, stateAfter}
 use Rattle.grammar_tables.specs.Reading.{noFrame, readFrame, readHeader}
 use Rattle.grammar_tables.proofs.Header.{header-reads, header-size}
 use Rattle.header_parser.specs.declared.HeaderRead.{HeaderRead}
@@ -51,7 +52,7 @@ width-same profile color slots l =
     split (eqb (l .traits .frame-type) 0) (λ key. simp (key, widthOf, widthFrom)) λ other.
     split (flag (l .shot .kind .intra-only)) (λ only. simp (other, only, widthOf, widthFrom)) (λ inter. simp (other, inter, widthOf, widthFrom))
 
-independent-same : (profile : ℕ) (color : Color) (slots : List FrameSize) (l : LeadValues) → independent (leadOf profile color slots l) ≡ isIndependent l
+independent-same : (profile : ℕ) (color : Color) (slots : List FrameSize) (l : LeadValues) → independent (leadOf profile color slots l) ≡ leadIsIndependent l
 unfolding leadOf traitsOf shotOf kindOf
 independent-same profile color slots l = refl
 
@@ -67,7 +68,7 @@ module _ (s : List ℕ) (st : ReaderState) where
 
   module _ (o : OpeningValues) (p : ℕ) (eo : readOpening s 0 ≡ read o p) where
     abbrev profile : ℕ
-    profile = profileNumber (o .profile)
+    profile = openingProfile (o .profile)
 
     abbrev lead : LeadValues → Lead
     lead l = leadOf profile (rememberedColor st) slots l
@@ -82,7 +83,7 @@ module _ (s : List ℕ) (st : ReaderState) where
       header-read c t ec = rw (opening-first slots s 0, eo, h, in-parts slots profile s p, el, eg, ec)
 
       last-same : (c : ClosingValues) (t : ℕ) → readClosing (widthFrom slots l) s r ≡ read c t
-          → answer (values c) t ≡ accepted (frameHeader profile (lead l) (settingsOf (independent (lead l)) (st .lf) (st .seg) g) (closingOf (widthFrom slots l) c) (cutLength t)) (frameState st profile (lead l) (settingsOf (independent (lead l)) (st .lf) (st .seg) g))
+          → answer (values c) t ≡ accepted (frameRecord profile (lead l) (settingsOf (independent (lead l)) (st .lf) (st .seg) g) (closingOf (widthFrom slots l) c) (cutLength t)) (frameState st profile (lead l) (settingsOf (independent (lead l)) (st .lf) (st .seg) g))
       unfolding headerOf stateAfter
       last-same c t ec =
           rw (h, state-parts st profile l g c, frame-parts st profile l g c, independent-same profile (rememberedColor st) slots l, length-same (values c) t (header-read c t ec))

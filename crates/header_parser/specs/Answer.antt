@@ -9,7 +9,7 @@ use Rattle.base_types.specs.declared.header.Header.{Header}
 use Rattle.base_types.specs.declared.state.ReaderState.{ReaderState}
 use Rattle.header_verdict.specs.declared.Verdict.the-variants.{Accepted, Refused}
 use Rattle.grammar_tables.specs.Reading.{readHeader}
-use Rattle.grammar_tables.specs.Record.{headerOf, stateAfter}
+use Rattle.grammar_record.specs.Record.{headerOf, stateAfter}
 use Rattle.header_parser.specs.declared.HeaderRead.{HeaderRead}
 
 -- record

@@ -11,7 +11,7 @@ use Rattle.base_bits.specs.Fault.{StopsIn, PastLast, OtherNumber}
 use Rattle.base_settings.specs.declared.size.FrameSize.{FrameSize}
 use Rattle.base_types.specs.declared.state.ReaderState.{ReaderState}
 use Rattle.grammar_tables.specs.Header.{HeaderValues, headerFields, Spelled}
-use Rattle.grammar_tables.specs.Record.{headerOf, stateAfter}
+use Rattle.grammar_record.specs.Record.{headerOf, stateAfter}
 use Rattle.header_parser.specs.declared.HeaderRead.{HeaderRead}
 use Rattle.header_parser.specs.Answer.{accepted, refusedWith}
 

@@ -8,7 +8,7 @@ use Rattle.header_lead.specs.Lead.{readLead, leadOf}
 use Rattle.header_tail.specs.declared.Settings.{Settings}
 use Rattle.header_tail.specs.Settings.{readSettings, settingsOf}
 use Rattle.header_tail.specs.Closing.{readClosing, closingOf}
-use Rattle.header_record.specs.Record.{independent, cutLength, frameHeader}
+use Rattle.header_record.specs.Record.{independent, cutLength, frameRecord}
 use Rattle.header_state.specs.State.{frameState}
 use Rattle.header_parser.specs.declared.HeaderRead.{HeaderRead}
 use Rattle.part_color.specs.declared.Color.{Color}
@@ -37,7 +37,7 @@ abbrev pub widthOf : Lead → ℕ
 widthOf l = l .shot .picture .sizes .frame .width
 
 abbrev pub finished : ReaderState → ℕ → Lead → Settings → List ℕ → ℕ → HeaderRead
-finished st profile l g s p = outcome st (λ v q. accepted (frameHeader profile l g (closingOf (widthOf l) v) (cutLength q)) (frameState st profile l g)) (readClosing (widthOf l) s p)
+finished st profile l g s p = outcome st (λ v q. accepted (frameRecord profile l g (closingOf (widthOf l) v) (cutLength q)) (frameState st profile l g)) (readClosing (widthOf l) s p)
 
 abbrev pub settled : ReaderState → ℕ → Lead → List ℕ → ℕ → HeaderRead
 settled st profile l s p = outcome st (λ v q. finished st profile l (settingsOf (independent l) (st .lf) (st .seg) v) s q) (readSettings s p)

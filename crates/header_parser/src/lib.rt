@@ -68,7 +68,7 @@ fn finish(s: &[u8], c: Cursor, profile: u32, l: Lead, g: Settings, st: ReaderSta
     };
     HeaderRead {
         verdict: Verdict::Accepted,
-        header: header_record::frame_header(profile, l, g, closing, c1.at),
+        header: header_record::frame_record(profile, l, g, closing, c1.at),
         state: header_state::frame_state(st, profile, l, g),
     }
 }

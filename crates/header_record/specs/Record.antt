@@ -4,16 +4,16 @@ use Prim.Native.Nat.{ℕ, min}
 use mathlib.Core.Bool.{Bool, false, _||_}
 use mathlib.Core.List.{List, [], _∷_}
 use lib.ListN.{replicate}
-use Rattle.base_bits.specs.Syntax.{pick}
+use Rattle.base_shared.specs.Choice.{pick}
 use Rattle.base_enums.specs.Profile.{profileOf}
 use Rattle.base_enums.specs.declared.FrameType.{FrameType}
 use Rattle.base_enums.specs.declared.FrameType.the-variants.{KeyFrame, InterFrame}
 use Rattle.base_types.specs.declared.header.Header.{Header}
-use Rattle.grammar_tables.specs.Settings.{lossless}
+use Rattle.grammar_settings.specs.Settings.{lossless}
 use Rattle.header_lead.specs.declared.Lead.{Lead}
 use Rattle.header_tail.specs.declared.Settings.{Settings}
 use Rattle.header_tail.specs.declared.Closing.{Closing}
-use Rattle.grammar_tables.specs.Record.{lengthOf}
+use Rattle.grammar_record.specs.Record.{lengthOf}
 
 -- the code's answer: the type of a frame that is a key frame or not
 abbrev pub frameTypeOf : Bool → FrameType
@@ -34,8 +34,8 @@ abbrev pub cutLength : ℕ → ℕ
 cutLength n = min (lengthOf n) 65535
 
 -- the record, from the parts and a length
-unfoldable pub frameHeader : ℕ → Lead → Settings → Closing → ℕ → Header
-frameHeader profile l g c bytes =
+unfoldable pub frameRecord : ℕ → Lead → Settings → Closing → ℕ → Header
+frameRecord profile l g c bytes =
     record {
       profile = profileOf profile;
       «bit_depth» = l .shot .picture .color .«bit_depth»;

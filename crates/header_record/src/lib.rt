@@ -1,6 +1,6 @@
 // The record of a frame's header, put together from the parts that were read.
 ghost use mathlib.Core.Path.{_≡_};
-ghost use Rattle.header_record.specs.Record.{cutLength, independent, frameTypeOf, signBiases, frameHeader};
+ghost use Rattle.header_record.specs.Record.{cutLength, independent, frameTypeOf, signBiases, frameRecord};
 use base_enums::FrameType;
 use base_enums::Profile;
 use base_types::Header;
@@ -52,8 +52,8 @@ fn header_bytes(at: usize) -> u16
 }
 
 // The record of a header that ends before a place.
-pub fn frame_header(profile: u32, l: Lead, g: Settings, c: Closing, at: usize) -> Header
-    ensures { λ r. ⌜ r ≡ frameHeader profile l g c (cutLength at) ⌝ }
+pub fn frame_record(profile: u32, l: Lead, g: Settings, c: Closing, at: usize) -> Header
+    ensures { λ r. ⌜ r ≡ frameRecord profile l g c (cutLength at) ⌝ }
 {
     let color = l.shot.picture.color;
     let bit_depth = color.bit_depth;

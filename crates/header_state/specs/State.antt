@@ -3,7 +3,7 @@
 use Prim.Native.Nat.{ℕ}
 use mathlib.Core.Bool.{Bool, _&&_}
 use lib.Dec.{eqb}
-use Rattle.base_bits.specs.Syntax.{pick}
+use Rattle.base_shared.specs.Choice.{pick}
 use Rattle.base_enums.specs.declared.ColorRange.{ColorRange}
 use Rattle.base_types.specs.declared.state.ReaderState.{ReaderState}
 use Rattle.base_slots.specs.Slots.{refreshed}

@@ -15,7 +15,7 @@ use Rattle.header_tail.specs.declared.SettingsRead.{SettingsRead}
 use Rattle.header_tail.specs.declared.Closing.{Closing}
 use Rattle.header_tail.specs.declared.ClosingRead.{ClosingRead}
 use Rattle.header_tail.specs.declared.ClosingRead.the-variants.{Value, Short}
-use Rattle.header_tail.specs.Settings.{Kept, SettingsAre}
+use Rattle.header_tail.specs.Settings.{SettingsKept, SettingsAre}
 use Rattle.header_tail.specs.Closing.{viewClosing}
 
 asClosing : Got Closing → ClosingRead
@@ -34,7 +34,7 @@ abbrev made : Settings → Next → SettingsRead
 made x n = record { settings = x; next = n }
 
 -- the answer of a view, with what a refusal hands back
-same : (lf : LoopFilterParams) (seg : SegmentationParams) (x y : Settings) (m n : Next) → viewNext x m ≡ viewNext y n → Kept lf seg x m → Kept lf seg y n → made x m ≡ made y n
+same : (lf : LoopFilterParams) (seg : SegmentationParams) (x y : Settings) (m n : Next) → viewNext x m ≡ viewNext y n → SettingsKept lf seg x m → SettingsKept lf seg y n → made x m ≡ made y n
 same lf seg x y (At c) (At d) e h k =
     let xy : x ≡ y = cc in
     let cd : c .at ≡ d .at = cc in

@@ -19,12 +19,12 @@ use Rattle.base_settings.specs.declared.loop_filter.LoopFilterParams.{LoopFilte
 use Rattle.base_settings.specs.declared.quantization.QuantizationParams.{QuantizationParams}
 use Rattle.base_settings.specs.declared.segmentation.SegmentationParams.{SegmentationParams}
 use Rattle.grammar_tables.specs.Tables.{LoopFilterValues, QuantizerValues, SegmentationValues, TilesValues}
-use Rattle.grammar_tables.specs.Settings.{loopFilterOf, quantizerOf, segmentationOf}
+use Rattle.grammar_settings.specs.Settings.{loopFilterOf, quantizerOf, segmentationOf}
 use Rattle.part_tiles.specs.declared.Tiles.{Tiles}
 use Rattle.part_tiles.specs.Tiles.{tilesOf}
 use Rattle.header_tail.specs.declared.Settings.{Settings}
 use Rattle.header_tail.specs.declared.SettingsRead.{SettingsRead}
-use Rattle.header_tail.specs.Settings.{settingsOver, keptSettings, Kept, SettingsAre, startingFilter, startingSegmentation}
+use Rattle.header_tail.specs.Settings.{settingsOver, keptSettings, SettingsKept, SettingsAre, startingFilter, startingSegmentation}
 use Rattle.header_tail.specs.Closing.{closingOf}
 
 pub settings-read : (lf : LoopFilterParams) (seg : SegmentationParams) (p : ℕ) (x : LoopFilterParams) (y : QuantizationParams) (z : SegmentationParams) (a : LoopFilterValues) (b : QuantizerValues) (d : SegmentationValues)
@@ -34,7 +34,7 @@ unfolding settingsOver
 settings-read lf seg p x y z a b d ex ey ez = rw (ex, ey, ez)
 
 -- what a refusal hands back
-pub kept : (lf : LoopFilterParams) (seg : SegmentationParams) (x : Settings) (n : Next) → x ≡ keptSettings lf seg → Kept lf seg x n
+pub kept : (lf : LoopFilterParams) (seg : SegmentationParams) (x : Settings) (n : Next) → x ≡ keptSettings lf seg → SettingsKept lf seg x n
 kept lf seg x (At c) e = tt
 kept lf seg x (Refused u) e = e
 

@@ -4,7 +4,7 @@ use Prim.Native.Nat.{ℕ}
 use mathlib.Core.Path.{_≡_}
 use mathlib.Core.Bool.{Bool, false}
 use mathlib.Core.List.{List}
-use Rattle.base_bits.specs.Syntax.{pick}
+use Rattle.base_shared.specs.Choice.{pick}
 use Rattle.base_bits.specs.Reader.{Got, Reader, give, _>>=_, over, viewNext}
 use Rattle.base_bits.specs.declared.Next.{Next}
 use Rattle.base_bits.specs.declared.Next.the-variants.{At, Refused}
@@ -15,7 +15,7 @@ use Rattle.base_settings.specs.declared.loop_filter.LoopFilterParams.{LoopFilte
 use Rattle.base_settings.specs.declared.segmentation.SegmentationParams.{SegmentationParams}
 use Rattle.grammar_tables.specs.Tables.{LoopFilterValues, QuantizerValues, SegmentationValues}
 use Rattle.grammar_tables.specs.Reading.{readLoopFilter, readQuantizer, readSegmentation}
-use Rattle.grammar_tables.specs.Settings.{loopFilterOf, quantizerOf, segmentationOf}
+use Rattle.grammar_settings.specs.Settings.{loopFilterOf, quantizerOf, segmentationOf}
 use Rattle.header_tail.specs.declared.Settings.{Settings}
 use Rattle.header_tail.specs.declared.SettingsRead.{SettingsRead}
 
@@ -61,10 +61,10 @@ abbrev pub viewSettings : SettingsRead → Got Settings
 viewSettings r = viewNext (r .settings) (r .next)
 
 -- a refusal hands back what the frame starts from
-abbrev pub Kept : LoopFilterParams → SegmentationParams → Settings → Next → Type 0
-Kept lf seg x (At c) = Unit
-Kept lf seg x (Refused e) = x ≡ keptSettings lf seg
+abbrev pub SettingsKept : LoopFilterParams → SegmentationParams → Settings → Next → Type 0
+SettingsKept lf seg x (At c) = Unit
+SettingsKept lf seg x (Refused e) = x ≡ keptSettings lf seg
 
 -- what is answered, from the settings that a frame starts from
 abbrev pub SettingsAre : List ℕ → ℕ → LoopFilterParams → SegmentationParams → SettingsRead → Type 0
-SettingsAre s p lf seg r = (viewSettings r ≡ over (settingsOver lf seg) (readSettings s p)) × Kept lf seg (r .settings) (r .next)
+SettingsAre s p lf seg r = (viewSettings r ≡ over (settingsOver lf seg) (readSettings s p)) × SettingsKept lf seg (r .settings) (r .next)

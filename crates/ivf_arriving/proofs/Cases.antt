@@ -7,7 +7,7 @@ use mathlib.Core.List.{List}
 use native.Mathlib.Omega.{arith}
 use lib.ListN.{length}
 use borrow.Author.Tests.{lt-ltb, le-ltb, eq-eqb, ne-eqb}
-use Rattle.part_coded.specs.Little.{little}
+use Rattle.base_little.specs.Little.{little}
 use Rattle.ivf_arriving.specs.declared.Next.the-variants.{Data, Long}
 use Rattle.ivf_arriving.specs.Next.{emptyBy, shortBy, dataBy, nextRecord}
 

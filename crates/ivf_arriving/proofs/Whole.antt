@@ -11,8 +11,8 @@ use lib.Dec.{eqb, ltb}
 use lib.ListN.{length, take, drop, length-drop}
 use lib.Seq.{take-all, length-take-le}
 use borrow.Author.Tests.{eqb-true, eqb-false, ltb-true, ltb-false, le-leb, lt-leb, lt-ltb, le-ltb}
-use Rattle.base_bits.specs.Syntax.{pick}
-use Rattle.part_coded.specs.Little.{little}
+use Rattle.base_shared.specs.Choice.{pick}
+use Rattle.base_little.specs.Little.{little}
 use Rattle.ivf_file.specs.Record.{dataLength, dataEnd, recordAt}
 use Rattle.ivf_file.proofs.Cases.{at-end, cut, whole}
 use Rattle.ivf_file.proofs.Part.{little-part}

@@ -5,8 +5,8 @@ use mathlib.Core.Bool.{Bool}
 use mathlib.Core.List.{List}
 use lib.Dec.{ltb, eqb}
 use lib.ListN.{length}
-use Rattle.base_bits.specs.Syntax.{pick}
-use Rattle.part_coded.specs.Little.{little}
+use Rattle.base_shared.specs.Choice.{pick}
+use Rattle.base_little.specs.Little.{little}
 use Rattle.ivf_arriving.specs.declared.Next.{Next}
 use Rattle.ivf_arriving.specs.declared.Next.the-variants.{End, More, Cut, Data, Long}
 

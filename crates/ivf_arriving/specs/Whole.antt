@@ -7,7 +7,7 @@ use mathlib.Core.Bool.{Bool, true, false, _&&_}
 use mathlib.Core.List.{List}
 use lib.Dec.{leb, ltb}
 use lib.ListN.{length}
-use Rattle.base_bits.specs.Syntax.{pick}
+use Rattle.base_shared.specs.Choice.{pick}
 use Rattle.ivf_file.specs.declared.RecordRead.{RecordRead}
 use Rattle.ivf_file.specs.declared.RecordRead.the-variants as read
 use Rattle.ivf_file.specs.Record.{dataStart, dataLength, recordOf}

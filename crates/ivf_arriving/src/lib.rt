@@ -2,9 +2,9 @@
 ghost use Prim.Native.Nat.{_≤_};
 ghost use mathlib.Core.Path.{_≡_};
 ghost use lib.ListN.{length};
-ghost use Rattle.part_coded.specs.Little.{little};
+ghost use Rattle.base_little.specs.Little.{little};
 ghost use Rattle.ivf_arriving.specs.Next.{emptyBy, shortBy, nextRecord};
-use part_coded::Little;
+use base_little::Little;
 
 // No record with more data is listed.
 pub const MAX_DATA: u64 = 65536;

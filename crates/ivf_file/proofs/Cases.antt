@@ -7,11 +7,11 @@ use mathlib.Core.List.{List}
 use native.Mathlib.Omega.{arith}
 use lib.ListN.{length}
 use borrow.Author.Tests.{not-true, not-false, le-leb, lt-leb, lt-ltb, le-ltb, eq-eqb, ne-eqb}
-use Rattle.part_coded.specs.Little.{little}
+use Rattle.base_little.specs.Little.{little}
 use Rattle.ivf_file.specs.declared.IvfHeader.{IvfHeader}
 use Rattle.ivf_file.specs.declared.FileRead.the-variants.{Header, Refused}
 use Rattle.ivf_file.specs.declared.RecordRead.the-variants as read
-use Rattle.ivf_file.specs.File.{dkif, vp90, standsAt, headerBytes, headerSize, isIvf, headerOf, fileOf}
+use Rattle.ivf_file.specs.File.{dkif, vp90, standsAt, headerBytes, headerSize, isIvf, fileHeaderOf, fileOf}
 use Rattle.ivf_file.specs.Record.{dataLength, dataEnd, recordAt, cutShort, recordOf}
 
 module _ (f : List ℕ) where
@@ -35,7 +35,7 @@ module _ (f : List ℕ) where
         unfolding fileOf isIvf
         no-vp90 t = rw (le-leb _ _ h, ← is-d, not-false d has, ← is-z, eq-eqb _ _ same, ← is-v, not-true v t)
 
-        pub is-header : not v ≡ false → (r : IvfHeader) → r ≡ headerOf f → Header r ≡ fileOf f
+        pub is-header : not v ≡ false → (r : IvfHeader) → r ≡ fileHeaderOf f → Header r ≡ fileOf f
         unfolding fileOf isIvf
         is-header t r e = rw (le-leb _ _ h, ← is-d, not-false d has, ← is-z, eq-eqb _ _ same, ← is-v, not-false v t, e)
 

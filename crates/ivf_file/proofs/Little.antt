@@ -7,8 +7,8 @@ use native.Mathlib.Numerals.{add-one}
 use native.Mathlib.Omega.{arith}
 use lib.ListN.{length, getD, take, drop, length-append}
 use lib.Seq.{append-snoc, getD-append-seam, drop-cons}
-use Rattle.part_coded.specs.Little as Little
-use Rattle.part_coded.specs.Little.{little}
+use Rattle.base_little.specs.Little as Little
+use Rattle.base_little.specs.Little.{little}
 use Rattle.chunk_index.specs.Spelling as Spelling
 use Rattle.chunk_index.specs.Spelling.{spellLittle}
 

@@ -9,11 +9,11 @@ use native.Mathlib.Omega.{arith}
 use types.Run.{OneOf}
 use denote.Enum.Declared.{tagOf}
 use lib.ListN.{length, getD}
-use Rattle.part_coded.specs.declared.Little.{Little}
-use Rattle.part_coded.specs.declared.Little.the-variants.{Value}
-use Rattle.part_coded.specs.Little.{little, readLittle}
-use Rattle.part_coded.proofs.Bytes.{little-value}
-use Rattle.part_coded.proofs.Little.{the-type}
+use Rattle.base_little.specs.declared.Little.{Little}
+use Rattle.base_little.specs.declared.Little.the-variants.{Value}
+use Rattle.base_little.specs.Little.{little, readLittle}
+use Rattle.base_little.proofs.Bytes.{little-value}
+use Rattle.base_little.proofs.Little.{the-type}
 
 pub little-lt : (s : List ℕ) → ((i : ℕ) → getD s i 0 < 256) → (at n : ℕ) → little s at n < 256 ^ n
 unfolding little

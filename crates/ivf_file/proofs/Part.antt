@@ -9,13 +9,13 @@ use native.Mathlib.Omega.{arith}
 use lib.ListN.{length, getD, take, drop, length-take, length-drop}
 use lib.Seq.{getD-drop, getD-take, take-all, length-take-le}
 use borrow.Author.Tests.{le-leb}
-use Rattle.part_coded.specs.declared.Little.the-variants.{Value}
-use Rattle.part_coded.specs.Little.{little, readLittle}
-use Rattle.part_coded.proofs.Bytes.{little-value}
-use Rattle.chunk_index.proofs.First.{below}
+use Rattle.base_little.specs.declared.Little.the-variants.{Value}
+use Rattle.base_little.specs.Little.{little, readLittle}
+use Rattle.base_little.proofs.Bytes.{little-value}
+use Rattle.base_shared.proofs.Order.{below}
 use Rattle.ivf_file.specs.declared.Record.{Record}
 use Rattle.ivf_file.specs.declared.RecordRead.the-variants as read
-use Rattle.ivf_file.specs.File.{dkif, vp90, standsAt, isIvf, headerOf, fileOf}
+use Rattle.ivf_file.specs.File.{dkif, vp90, standsAt, isIvf, fileHeaderOf, fileOf}
 use Rattle.ivf_file.specs.Record.{dataEnd, recordAt, recordOf}
 use Rattle.ivf_file.proofs.Inside.{whole}
 
@@ -35,7 +35,7 @@ stands-first s m at (b ∷ bs) h = let l : at < m = omega arith in rw (getD-take
 
 -- the first 32 bytes of a file give what the whole file gives
 pub header-first : (f : List ℕ) → fileOf (take 32 f) ≡ fileOf f
-unfolding fileOf isIvf headerOf
+unfolding fileOf isIvf fileHeaderOf
 header-first f = ⊎-elim (λ l. rw (take-all 32 f (omega arith))) long (below (length f) 32)
   where
     long : 32 ≤ length f → fileOf (take 32 f) ≡ fileOf f

@@ -10,18 +10,18 @@ use lib.Dec.{eqb}
 use lib.ListN.{length, getD, take, drop, length-append, length-drop, take-append-drop}
 use lib.Seq.{drop-drop, length-take-le}
 use borrow.Author.Tests.{eqb-true, eqb-false}
-use Rattle.part_coded.specs.Little as Little
-use Rattle.part_coded.specs.Little.{little}
+use Rattle.base_little.specs.Little as Little
+use Rattle.base_little.specs.Little.{little}
 use Rattle.chunk_index.specs.Spelling as Spelling
 use Rattle.chunk_index.specs.Spelling.{spellLittle}
 use Rattle.ivf_file.specs.declared.IvfHeader.{IvfHeader}
 use Rattle.ivf_file.specs.declared.Record.{Record}
 use Rattle.ivf_file.specs.declared.FileRead.the-variants.{Header}
 use Rattle.ivf_file.specs.declared.RecordRead.the-variants as read
-use Rattle.ivf_file.specs.File.{dkif, vp90, standsAt, headerOf, fileOf}
+use Rattle.ivf_file.specs.File.{dkif, vp90, standsAt, fileHeaderOf, fileOf}
 use Rattle.ivf_file.specs.Record.{recordAt, recordOf}
 use Rattle.ivf_file.specs.Table.{Lacks}
-use Rattle.ivf_file.specs.Spelling.{HeaderValues, spellHeader, InRange, Begins, spellRecord, recordFrom, Stands}
+use Rattle.ivf_file.specs.Spelling.{FileValues, spellHeader, FileRanged, FileBegins, spellRecord, recordFrom, RecordStands}
 use Rattle.ivf_file.proofs.Numbers.{little-lt}
 use Rattle.ivf_file.proofs.Little.{length-little, little-spelt, little-bytes}
 use Rattle.ivf_file.proofs.Stands.{stands-part}
@@ -43,11 +43,11 @@ same-number m n h = go (eqb m n) refl
     go false e = absurd (h (eqb-false m n e))
 
 -- what the first 32 bytes say
-headerValues : List ℕ → HeaderValues
-headerValues f = record { version = little f 4 2; header = headerOf f; unused = little f 28 4 }
+headerValues : List ℕ → FileValues
+headerValues f = record { version = little f 4 2; header = fileHeaderOf f; unused = little f 28 4 }
 
-values-spelt : (v : HeaderValues) → InRange v → (b : List ℕ) → headerValues (spellHeader v ++ b) ≡ v
-unfolding headerValues headerOf spellHeader Spelling.spellLittle Little.little
+values-spelt : (v : FileValues) → FileRanged v → (b : List ℕ) → headerValues (spellHeader v ++ b) ≡ v
+unfolding headerValues fileHeaderOf spellHeader Spelling.spellLittle Little.little
 values-spelt v r b =
     let version : little (spellHeader v ++ b) 4 2 ≡ v .version = omega (arith, r .version) in
     let width : little (spellHeader v ++ b) 12 2 ≡ v .header .width = omega (arith, r .width) in
@@ -59,15 +59,15 @@ values-spelt v r b =
     rw (version, width, height, rate, scale, count, unused)
 
 -- a header that is spelled is read
-header-spelt : (v : HeaderValues) → InRange v → (b : List ℕ) → fileOf (spellHeader v ++ b) ≡ Header (v .header)
+header-spelt : (v : FileValues) → FileRanged v → (b : List ℕ) → fileOf (spellHeader v ++ b) ≡ Header (v .header)
 unfolding headerValues spellHeader Spelling.spellLittle Little.little
 header-spelt v r b =
     let e : headerValues (spellHeader v ++ b) ≡ v = values-spelt v r b in
     file-exactly (spellHeader v ++ b) (Header (v .header)) .1
-    (⊎-elim (λ l. omega arith) (⊎-elim (λ n. n refl) (⊎-elim (λ n. n refl) (λ n. n refl))), sym (ap (λ (x : HeaderValues). x .header) e))
+    (⊎-elim (λ l. omega arith) (⊎-elim (λ n. n refl) (⊎-elim (λ n. n refl) (λ n. n refl))), sym (ap (λ (x : FileValues). x .header) e))
 
 -- no other values' spelling begins the file
-pub one-header : (v w : HeaderValues) → InRange v → InRange w → (a b : List ℕ) → spellHeader v ++ a ≡ spellHeader w ++ b → v ≡ w
+pub one-header : (v w : FileValues) → FileRanged v → FileRanged w → (a b : List ℕ) → spellHeader v ++ a ≡ spellHeader w ++ b → v ≡ w
 one-header v w r q a b e = sym (values-spelt v r a) ∙ ap headerValues e ∙ values-spelt w q b
 
 -- a record that is spelled is read
@@ -93,8 +93,8 @@ module _ (f : List ℕ) (bytes : (i : ℕ) → getD f i 0 < 256) where
   header-pieces = simp append-assoc (rw (piece 28 4 32 refl, piece 24 4 28 refl, piece 20 4 24 refl, piece 16 4 20 refl, piece 14 2 16 refl, piece 12 2 14 refl, piece 8 4 12 refl, piece 6 2 8 refl, piece 4 2 6 refl, piece 0 4 4 refl))
 
   -- a header that is read is spelled
-  header-begins : (h : IvfHeader) → fileOf f ≡ Header h → Begins f h
-  unfolding headerValues headerOf spellHeader
+  header-begins : (h : IvfHeader) → fileOf f ≡ Header h → FileBegins f h
+  unfolding headerValues fileHeaderOf spellHeader
   header-begins h e =
       let k = file-exactly f (Header h) .0 e in
       let n : length f < 32 → ⊥ = λ l. k .0 (inl l) in
@@ -133,11 +133,11 @@ module _ (f : List ℕ) (bytes : (i : ℕ) → getD f i 0 < 256) where
       }
 
   -- a file's header is read exactly if the file begins with its spelling
-  pub header-spelled : (h : IvfHeader) → (fileOf f ≡ Header h) ↔ Begins f h
+  pub header-spelled : (h : IvfHeader) → (fileOf f ≡ Header h) ↔ FileBegins f h
   header-spelled h = (header-begins h, λ s. ap fileOf (s .spelled) ∙ header-spelt (s .values) (s .in-range) (s .rest) ∙ ap Header (s .same))
 
   -- a record that is read is spelled
-  record-stands : (p : ℕ) (r : Record) → recordOf f p ≡ read.Record r → Stands f p r
+  record-stands : (p : ℕ) (r : Record) → recordOf f p ≡ read.Record r → RecordStands f p r
   unfolding spellRecord recordAt
   record-stands p r e =
       let k = record-exactly f p (read.Record r) .0 e in
@@ -160,10 +160,10 @@ module _ (f : List ℕ) (bytes : (i : ℕ) → getD f i 0 < 256) where
       })
 
   -- a record is read at a place exactly if its spelling stands there
-  pub record-spelled : (p : ℕ) (r : Record) → (recordOf f p ≡ read.Record r) ↔ Stands f p r
+  pub record-spelled : (p : ℕ) (r : Record) → (recordOf f p ≡ read.Record r) ↔ RecordStands f p r
   record-spelled p r = (record-stands p r, back)
     where
-      back : Stands f p r → recordOf f p ≡ read.Record r
+      back : RecordStands f p r → recordOf f p ≡ read.Record r
       back s =
           let k : recordOf f (length (s .before)) ≡ read.Record (recordFrom (length (s .before)) (r .time) (s .bytes)) =
           rw (s .spelled) (record-spelt (s .before) (s .rest) (r .time) (s .bytes) (s .length-fits) (s .time-fits)) in

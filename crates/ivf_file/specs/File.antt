@@ -5,8 +5,8 @@ use mathlib.Core.Bool.{Bool, true, _&&_}
 use mathlib.Core.List.{List, [], _∷_}
 use lib.Dec.{eqb, leb}
 use lib.ListN.{length, getD}
-use Rattle.base_bits.specs.Syntax.{pick}
-use Rattle.part_coded.specs.Little.{little}
+use Rattle.base_shared.specs.Choice.{pick}
+use Rattle.base_little.specs.Little.{little}
 use Rattle.ivf_file.specs.declared.IvfHeader.{IvfHeader}
 use Rattle.ivf_file.specs.declared.FileRead.{FileRead}
 use Rattle.ivf_file.specs.declared.FileRead.the-variants.{Header, Refused}
@@ -33,11 +33,11 @@ headerSize f = little f 6 2
 unfoldable pub isIvf : List ℕ → Bool
 isIvf f = leb headerBytes (length f) && (standsAt f 0 dkif && (eqb (headerSize f) headerBytes && standsAt f 8 vp90))
 
-unfoldable pub headerOf : List ℕ → IvfHeader
-headerOf f = record { width = little f 12 2; height = little f 14 2; rate = little f 16 4; scale = little f 20 4; count = little f 24 4 }
+unfoldable pub fileHeaderOf : List ℕ → IvfHeader
+fileHeaderOf f = record { width = little f 12 2; height = little f 14 2; rate = little f 16 4; scale = little f 20 4; count = little f 24 4 }
 
 unfoldable pub fileOf : List ℕ → FileRead
-fileOf f = pick (isIvf f) (Header (headerOf f)) Refused
+fileOf f = pick (isIvf f) (Header (fileHeaderOf f)) Refused
 
 -- document 01's number, 0 for a header
 abbrev pub fileNumber : FileRead → ℕ

@@ -5,8 +5,8 @@ use mathlib.Core.Bool.{Bool}
 use mathlib.Core.List.{List}
 use lib.Dec.{eqb, ltb}
 use lib.ListN.{length}
-use Rattle.base_bits.specs.Syntax.{pick}
-use Rattle.part_coded.specs.Little.{little}
+use Rattle.base_shared.specs.Choice.{pick}
+use Rattle.base_little.specs.Little.{little}
 use Rattle.ivf_file.specs.declared.Record.{Record}
 use Rattle.ivf_file.specs.declared.RecordRead.{RecordRead}
 use Rattle.ivf_file.specs.declared.RecordRead.the-variants as read

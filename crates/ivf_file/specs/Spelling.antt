@@ -10,13 +10,13 @@ use Rattle.ivf_file.specs.declared.Record.{Record}
 use Rattle.ivf_file.specs.File.{dkif, vp90}
 
 -- what a file's header says; its reader hands out all but version and unused
-pub record HeaderValues : Type 0 where
+pub record FileValues : Type 0 where
   pub version : ℕ
   pub header : IvfHeader
   pub unused : ℕ
 
 -- the four bytes DKIF, version 2, header size 2, VP90, width 2, height 2, rate 4, scale 4, count 4, unused 4; numbers low byte first
-unfoldable pub spellHeader : HeaderValues → List ℕ
+unfoldable pub spellHeader : FileValues → List ℕ
 spellHeader v =
     dkif
     ++ (spellLittle 2 (v .version)
@@ -29,7 +29,7 @@ spellHeader v =
     ++ (spellLittle 4 (v .header .count)
     ++ spellLittle 4 (v .unused)))))))))
 
-pub record InRange (v : HeaderValues) : Type 0 where
+pub record FileRanged (v : FileValues) : Type 0 where
   pub version : v .version < 256 ^ 2
   pub width : v .header .width < 256 ^ 2
   pub height : v .header .height < 256 ^ 2
@@ -39,9 +39,9 @@ pub record InRange (v : HeaderValues) : Type 0 where
   pub unused : v .unused < 256 ^ 4
 
 -- the file begins with the spelling of a header
-pub record Begins (f : List ℕ) (h : IvfHeader) : Type 0 where
-  pub values : HeaderValues
-  pub in-range : InRange values
+pub record FileBegins (f : List ℕ) (h : IvfHeader) : Type 0 where
+  pub values : FileValues
+  pub in-range : FileRanged values
   pub same : values .header ≡ h
   pub rest : List ℕ
   pub spelled : f ≡ spellHeader values ++ rest
@@ -55,7 +55,7 @@ abbrev pub recordFrom : ℕ → ℕ → List ℕ → Record
 recordFrom p time bytes = record { length = length bytes; time = time; «data» = p + 12; next = p + 12 + length bytes }
 
 -- the spelling of a record stands at p
-pub record Stands (f : List ℕ) (p : ℕ) (r : Record) : Type 0 where
+pub record RecordStands (f : List ℕ) (p : ℕ) (r : Record) : Type 0 where
   pub before : List ℕ
   pub bytes : List ℕ
   pub rest : List ℕ

@@ -11,7 +11,7 @@ use Rattle.ivf_file.specs.declared.FileRead.the-variants.{Header, Refuse
 use Rattle.ivf_file.specs.declared.Record.{Record}
 use Rattle.ivf_file.specs.declared.RecordRead.{RecordRead}
 use Rattle.ivf_file.specs.declared.RecordRead.the-variants as read
-use Rattle.ivf_file.specs.File.{dkif, vp90, headerSize, headerOf}
+use Rattle.ivf_file.specs.File.{dkif, vp90, headerSize, fileHeaderOf}
 use Rattle.ivf_file.specs.Record.{dataLength, recordAt}
 
 -- the file lacks those bytes at that place
@@ -24,7 +24,7 @@ BadFile f = (length f < 32) ⊎ (Lacks f 0 dkif ⊎ ((headerSize f ≡ 32 → �
 
 abbrev pub FileWhen : FileRead → List ℕ → Type 0
 FileWhen Refused f = BadFile f
-FileWhen (Header h) f = (BadFile f → ⊥) × (h ≡ headerOf f)
+FileWhen (Header h) f = (BadFile f → ⊥) × (h ≡ fileHeaderOf f)
 
 -- 8: the record's 12-byte header or its data is cut short
 abbrev pub CutShort : List ℕ → ℕ → Type 0

@@ -2,10 +2,10 @@
 ghost use mathlib.Core.Path.{_≡_};
 ghost use Prim.Native.Nat.{_+_, _^_, _≤_, _<_};
 ghost use lib.ListN.{length};
-ghost use Rattle.part_coded.specs.Little.{little, readLittle};
-ghost use Rattle.ivf_file.specs.File.{standsAt, headerOf, fileOf};
+ghost use Rattle.base_little.specs.Little.{little, readLittle};
+ghost use Rattle.ivf_file.specs.File.{standsAt, fileHeaderOf, fileOf};
 ghost use Rattle.ivf_file.specs.Record.{recordOf};
-use part_coded::Little;
+use base_little::Little;
 
 pub struct IvfHeader {
     pub width: u16,
@@ -26,7 +26,7 @@ fn number_at(s: &[u8], at: usize, n: usize) -> u64
     requires { ⌜ (n ≤ 8) × (at + n ≤ length (now s)) ⌝ }
     ensures { λ r. ⌜ (r ≡ little (now (s .entry)) at n) × (r < 256 ^ n) ⌝ }
 {
-    let Little::Value(z) = part_coded::read_little(s, at, n) else {
+    let Little::Value(z) = base_little::read_little(s, at, n) else {
         return 0;
     };
     z
@@ -51,7 +51,7 @@ fn four_stand(s: &[u8], at: usize, four: &[u8; 4]) -> bool
 
 fn header_fields(file: &[u8]) -> IvfHeader
     requires { ⌜ 32 ≤ length (now file) ⌝ }
-    ensures { λ r. ⌜ r ≡ headerOf (now (file .entry)) ⌝ }
+    ensures { λ r. ⌜ r ≡ fileHeaderOf (now (file .entry)) ⌝ }
 {
     IvfHeader {
         width: number_at(file, 12, 2) as u16,
@@ -131,5 +131,5 @@ pub fn read_record(file: &[u8], place: usize) -> RecordRead
 pub fn record_length(header: &[u8]) -> Little
     ensures { λ r. ⌜ r ≡ readLittle (now (header .entry)) 0 4 ⌝ }
 {
-    part_coded::read_little(header, 0, 4)
+    base_little::read_little(header, 0, 4)
 }

@@ -12,7 +12,7 @@ use Rattle.ivf_file.specs.Record.{recordOf}
 use Rattle.ivf_file.proofs.Table.{past-the-end}
 use Rattle.ivf_file.proofs.Inside.{lies}
 use Rattle.ivf_reader.specs.declared.RecordReader.{RecordReader}
-use Rattle.ivf_reader.specs.Reader.{placeAfter, movedOn}
+use Rattle.ivf_reader.specs.Reader.{readerPlaceAfter, movedOn}
 
 module _ (r : RecordReader) where
   abbrev answer : RecordRead

@@ -14,11 +14,11 @@ abbrev pub opened : RefT (List ℕ) → RecordReader
 opened f = record { file = f; place = headerBytes }
 
 -- behind a record; the same place at the end, and where a record is cut short
-abbrev pub placeAfter : RecordRead → ℕ → ℕ
-placeAfter (read.Record r) p = r .next
-placeAfter read.End p = p
-placeAfter read.Cut p = p
+abbrev pub readerPlaceAfter : RecordRead → ℕ → ℕ
+readerPlaceAfter (read.Record r) p = r .next
+readerPlaceAfter read.End p = p
+readerPlaceAfter read.Cut p = p
 
 -- the same file, at the place after what was read
 abbrev pub movedOn : RecordReader → RecordReader
-movedOn r = record { file = r .file; place = placeAfter (recordOf (now (r .file)) (r .place)) (r .place) }
+movedOn r = record { file = r .file; place = readerPlaceAfter (recordOf (now (r .file)) (r .place)) (r .place) }

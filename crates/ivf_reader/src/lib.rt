@@ -2,7 +2,7 @@
 // so each is proved by hand and thin; the work is done by `ivf_file::read_record`, which takes a plain slice and a place.
 ghost use mathlib.Core.Path.{_≡_};
 ghost use Rattle.ivf_file.specs.Record.{recordOf};
-ghost use Rattle.ivf_reader.specs.Reader.{opened, placeAfter, movedOn};
+ghost use Rattle.ivf_reader.specs.Reader.{opened, readerPlaceAfter, movedOn};
 use ivf_file::RecordRead;
 
 pub struct RecordReader<'a> {
@@ -12,7 +12,7 @@ pub struct RecordReader<'a> {
 
 // Where the next record stands. At the end, and where a record is cut short, the place stays.
 fn place_after(read: RecordRead, place: usize) -> usize
-    ensures { λ r. ⌜ r ≡ placeAfter read place ⌝ }
+    ensures { λ r. ⌜ r ≡ readerPlaceAfter read place ⌝ }
 {
     match read {
         RecordRead::Record(record) => record.next,

@@ -18,7 +18,7 @@ use Rattle.base_bits.specs.declared.Cursor.{Cursor}
 use Rattle.base_bits.specs.Read.{readBitsIf}
 use Rattle.base_bits.specs.Reader.{got}
 use Rattle.base_bits.proofs.Steps.{value-if-lt}
-use Rattle.grammar_tables.specs.Settings.{signed, probOf}
+use Rattle.grammar_settings.specs.Settings.{signed, probOf}
 use Rattle.part_coded.specs.declared.Delta.{Delta}
 use Rattle.part_coded.specs.declared.DeltaRead.{DeltaRead}
 use Rattle.part_coded.specs.declared.DeltaRead.the-variants.{Value as Narrow, Short, TooWide}

@@ -8,7 +8,7 @@ use lib.IntN.{pos, negℤ, _-ℤ_, +ℤ-idl}
 use mir.Val.{SFits, hbits, toZ, ofZ}
 use mir.Facts.{toZ-pos, toZ-ofZ}
 use mir.Syntax.{Width}
-use Rattle.grammar_tables.specs.Settings.{signed}
+use Rattle.grammar_settings.specs.Settings.{signed}
 
 module _ (w : Width) (m : ℕ) (small : m < 2 ^ hbits w) where
   neg-fits : SFits w (negℤ (pos m))

@@ -6,9 +6,10 @@ use mathlib.Core.List.{List}
 use lib.Dec.{leb}
 use Rattle.base_bits.specs.Refusal.{Name}
 use Rattle.base_bits.specs.Syntax.{flag}
-use Rattle.base_bits.specs.Reader.{Got, got, refused, pickT, over}
+use Rattle.base_shared.specs.Choice.{pickT}
+use Rattle.base_bits.specs.Reader.{Got, got, refused, over}
 use Rattle.base_bits.specs.declared.Refusal.the-variants.{PastEnd}
-use Rattle.grammar_tables.specs.Settings.{signed}
+use Rattle.grammar_settings.specs.Settings.{signed}
 use Rattle.part_coded.specs.declared.Delta.{Delta}
 use Rattle.part_coded.specs.declared.DeltaRead.{DeltaRead}
 use Rattle.part_coded.specs.declared.DeltaRead.the-variants.{Value, Short, TooWide}

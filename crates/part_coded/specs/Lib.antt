@@ -1,3 +1,2 @@
 pub mod Delta
 pub mod Prob
-pub mod Little

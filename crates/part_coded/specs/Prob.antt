@@ -8,7 +8,7 @@ use Rattle.base_bits.specs.Reader.{Got, got, refused, over}
 use Rattle.base_bits.specs.declared.Refusal.the-variants.{PastEnd}
 use Rattle.part_coded.specs.declared.ProbRead.{ProbRead}
 use Rattle.part_coded.specs.declared.ProbRead.the-variants.{Value, Short}
-use Rattle.grammar_tables.specs.Settings.{probOf}
+use Rattle.grammar_settings.specs.Settings.{probOf}
 use Rattle.grammar_tables.specs.Reading.{readProb}
 
 -- the code's answer

@@ -13,7 +13,7 @@ use Rattle.part_color.specs.declared.ColorRead.{ColorRead}
 use Rattle.part_color.proofs.Parts.{flatColor}
 use Rattle.part_sampling.specs.Sampling.{samplingOf, SamplingValues}
 use Rattle.part_color.specs.Color.{colorOf, viewColor}
-use Rattle.grammar_tables.specs.Record.{depthOf}
+use Rattle.grammar_settings.specs.Enums.{depthOf}
 use Rattle.grammar_tables.specs.Reading.{readColor}
 use Rattle.part_color.specs.Intra.{fixedColor, readIntraColor, intraColorOf}
 

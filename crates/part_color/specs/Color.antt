@@ -4,7 +4,7 @@ use Prim.Native.Nat.{ℕ}
 use Rattle.base_bits.specs.Reader.{Got, got, refused}
 use Rattle.base_bits.specs.declared.Refusal.the-variants.{PastEnd}
 use Rattle.base_enums.specs.ColorSpace.{colorSpaceOf}
-use Rattle.grammar_tables.specs.Record.{rangeOf, subsampling, depthOf}
+use Rattle.grammar_settings.specs.Enums.{depthOf, rangeOf, subsampling}
 use Rattle.part_color.specs.declared.Color.{Color}
 use Rattle.part_color.specs.declared.ColorRead.{ColorRead}
 use Rattle.part_color.specs.declared.ColorRead.the-variants.{Value, Short}

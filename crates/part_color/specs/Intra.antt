@@ -3,7 +3,7 @@
 use Prim.Native.Nat.{ℕ}
 use mathlib.Core.Bool.{Bool, true}
 use lib.Dec.{ltb}
-use Rattle.base_bits.specs.Syntax.{pick}
+use Rattle.base_shared.specs.Choice.{pick}
 use Rattle.base_bits.specs.Reader.{Reader, groupIf}
 use Rattle.base_enums.specs.declared.BitDepth.the-variants.{Depth8}
 use Rattle.base_enums.specs.declared.ColorRange.the-variants.{StudioSwing}
@@ -14,8 +14,8 @@ use Rattle.grammar_tables.specs.Reading.{noColor, readColor}
 use Rattle.part_color.specs.declared.Color.{Color}
 
 -- profiles over 0 code the colour
-abbrev pub colored : ℕ → Bool
-colored profile = ltb 0 profile
+abbrev pub intraColored : ℕ → Bool
+intraColored profile = ltb 0 profile
 
 -- profile 0 has depth 8, colour space 1, range 0 and both subsamplings
 abbrev pub fixedColor : Color
@@ -29,8 +29,8 @@ fixedColor =
     }
 
 unfoldable pub intraColorOf : ℕ → ColorValues → Color
-intraColorOf profile v = pick (colored profile) (colorOf profile v) fixedColor
+intraColorOf profile v = pick (intraColored profile) (colorOf profile v) fixedColor
 
 -- reading
 unfoldable pub readIntraColor : ℕ → Reader ColorValues
-readIntraColor profile = groupIf (colored profile) noColor (readColor profile)
+readIntraColor profile = groupIf (intraColored profile) noColor (readColor profile)

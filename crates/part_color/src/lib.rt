@@ -2,7 +2,7 @@
 ghost use mathlib.Core.Path.{_≡_};
 ghost use Rattle.base_bits.specs.Reader.{over};
 ghost use Rattle.part_color.specs.Color.{colorOf, viewColor};
-ghost use Rattle.grammar_tables.specs.Record.{depthOf};
+ghost use Rattle.grammar_settings.specs.Enums.{depthOf};
 ghost use Rattle.grammar_tables.specs.Reading.{readColor};
 ghost use Rattle.part_color.specs.Intra.{readIntraColor, intraColorOf};
 use base_bits::Bits;

@@ -9,7 +9,7 @@ use Rattle.part_feature.specs.declared.Feature.{Feature}
 use Rattle.part_feature.specs.declared.FeatureRead.{FeatureRead}
 use Rattle.part_feature.specs.declared.FeatureRead.the-variants.{Value, Short}
 use Rattle.grammar_tables.specs.Tables.{FeatureValues}
-use Rattle.grammar_tables.specs.Settings.{enabledOf, dataValue}
+use Rattle.grammar_settings.specs.Settings.{enabledOf, dataValue}
 use Rattle.grammar_tables.specs.Reading.{readFeature}
 
 -- the code's answer

@@ -17,7 +17,7 @@ use Rattle.grammar_tables.specs.Tables.{DeltaValues}
 use Rattle.base_settings.specs.declared.loop_filter.LoopFilterParams.{LoopFilterParams}
 use Rattle.part_loop_deltas.specs.declared.RefDeltas.{RefDeltas}
 use Rattle.part_loop_deltas.specs.declared.ModeDeltas.{ModeDeltas}
-use Rattle.part_loop_deltas.specs.LoopDeltas.{refDeltasOf, modeDeltasOf, moved, withFlags, withDeltas, loopDeltasOf}
+use Rattle.part_loop_deltas.specs.LoopDeltas.{refDeltasOf, modeDeltasOf, deltaMoved, withFlags, withDeltas, loopDeltasOf}
 use Rattle.grammar_tables.specs.Reading.{noRefDeltas, noModeDeltas}
 
 -- the loop filter's deltas
@@ -32,15 +32,15 @@ mode-deltas z o a b p ez eo = rw (ez, eo)
 
 -- a delta in a row of them
 module _ (d : Delta) (old : ℤ) where
-  pub moved-coded : d .coded ≡ true → SFits w8 (d .value) → toZ w8 (ofZ w8 (d .value)) ≡ moved d old
-  unfolding moved
+  pub moved-coded : d .coded ≡ true → SFits w8 (d .value) → toZ w8 (ofZ w8 (d .value)) ≡ deltaMoved d old
+  unfolding deltaMoved
   moved-coded e f = rw (e, toZ-ofZ f)
 
-  pub moved-kept : d .coded ≡ false → SFits w8 old → toZ w8 (ofZ w8 old) ≡ moved d old
-  unfolding moved
+  pub moved-kept : d .coded ≡ false → SFits w8 old → toZ w8 (ofZ w8 old) ≡ deltaMoved d old
+  unfolding deltaMoved
   moved-kept e f = rw (e, toZ-ofZ f)
 
-  pub moved-next : (x : ℤ) (l m : List ℤ) → x ≡ moved d (toZ w8 (ofZ w8 old)) → SFits w8 x → SFits w8 old → l ≡ m → (toZ w8 (ofZ w8 x) ∷ l) ≡ (moved d old ∷ m)
+  pub moved-next : (x : ℤ) (l m : List ℤ) → x ≡ deltaMoved d (toZ w8 (ofZ w8 old)) → SFits w8 x → SFits w8 old → l ≡ m → (toZ w8 (ofZ w8 x) ∷ l) ≡ (deltaMoved d old ∷ m)
   moved-next x l m e f g h = rw (toZ-ofZ f, e, toZ-ofZ g, h)
 
 -- the settings with and without an update of the deltas

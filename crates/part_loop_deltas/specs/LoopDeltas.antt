@@ -5,7 +5,8 @@ use mathlib.Core.Bool.{Bool, true, false}
 use mathlib.Core.List.{List, [], _∷_}
 use lib.IntN.{ℤ, pos}
 use lib.ListN.{getD}
-use Rattle.base_bits.specs.Syntax.{flag, pick}
+use Rattle.base_shared.specs.Choice.{pick}
+use Rattle.base_bits.specs.Syntax.{flag}
 use Rattle.base_bits.specs.Reader.{Got, got, refused, viewNext, _>>=_, field, groupIf, Reader, give}
 use Rattle.base_bits.specs.Many.{Times}
 use Rattle.base_bits.specs.declared.Refusal.the-variants.{PastEnd}
@@ -46,19 +47,19 @@ unfoldable pub modeDeltasOf : Times 2 DeltaValues → ModeDeltas
 modeDeltasOf v = record { zero = deltaOf (v .0); other = deltaOf (v .1 .0) }
 
 -- a delta that isn't coded keeps its value
-unfoldable pub moved : Delta → ℤ → ℤ
-moved d old = pick (d .coded) (d .value) old
+unfoldable pub deltaMoved : Delta → ℤ → ℤ
+deltaMoved d old = pick (d .coded) (d .value) old
 
 unfoldable pub movedRefs : RefDeltas → List ℤ → List ℤ
 movedRefs d old =
-    moved (d .intra) (getD old 0 (pos 0))
-    ∷ moved (d .last) (getD old 1 (pos 0))
-    ∷ moved (d .golden) (getD old 2 (pos 0))
-    ∷ moved (d .altref) (getD old 3 (pos 0))
+    deltaMoved (d .intra) (getD old 0 (pos 0))
+    ∷ deltaMoved (d .last) (getD old 1 (pos 0))
+    ∷ deltaMoved (d .golden) (getD old 2 (pos 0))
+    ∷ deltaMoved (d .altref) (getD old 3 (pos 0))
     ∷ []
 
 unfoldable pub movedModes : ModeDeltas → List ℤ → List ℤ
-movedModes d old = moved (d .zero) (getD old 0 (pos 0)) ∷ moved (d .other) (getD old 1 (pos 0)) ∷ []
+movedModes d old = deltaMoved (d .zero) (getD old 0 (pos 0)) ∷ deltaMoved (d .other) (getD old 1 (pos 0)) ∷ []
 
 -- the old settings with other flags, and with an update of the deltas
 abbrev pub withFlags : LoopFilterParams → ℕ → ℕ → Bool → Bool → LoopFilterParams

@@ -1,7 +1,7 @@
 // The deltas of loop_filter_params(): what references and modes add to the level.
 ghost use mathlib.Core.Path.{_≡_};
 ghost use Rattle.base_bits.specs.Reader.{over};
-ghost use Rattle.part_loop_deltas.specs.LoopDeltas.{refDeltasOf, modeDeltasOf, moved, movedRefs, movedModes, withDeltas, loopDeltasOf, viewRefDeltas, viewModeDeltas, viewLoopFilter, readLoopDeltas};
+ghost use Rattle.part_loop_deltas.specs.LoopDeltas.{refDeltasOf, modeDeltasOf, deltaMoved, movedRefs, movedModes, withDeltas, loopDeltasOf, viewRefDeltas, viewModeDeltas, viewLoopFilter, readLoopDeltas};
 ghost use Rattle.grammar_tables.specs.Reading.{readRefDeltas, readModeDeltas};
 use base_bits::Bits;
 use base_bits::Cursor;
@@ -75,7 +75,7 @@ fn read_mode_deltas(s: &[u8], c: Cursor) -> ModeDeltasRead
 
 // A delta that isn't coded keeps its value.
 fn move_delta(d: Delta, old: i8) -> i8
-    ensures { λ r. ⌜ r ≡ moved d old ⌝ }
+    ensures { λ r. ⌜ r ≡ deltaMoved d old ⌝ }
 {
     if d.coded { d.value } else { old }
 }

@@ -10,7 +10,7 @@ use Rattle.base_settings.specs.declared.loop_filter.LoopFilterParams.{LoopFilte
 use Rattle.part_loop_deltas.specs.declared.LoopFilterRead.{LoopFilterRead}
 use Rattle.part_loop_deltas.specs.LoopDeltas.{viewLoopFilter}
 use Rattle.grammar_tables.specs.Reading.{readLoopFilter}
-use Rattle.grammar_tables.specs.Settings.{loopFilterOf}
+use Rattle.grammar_settings.specs.Settings.{loopFilterOf}
 use Rattle.part_loop_deltas.proofs.Exact.{one-kept}
 use mathlib.Core.Bool.{false}
 

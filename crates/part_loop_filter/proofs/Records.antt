@@ -16,8 +16,8 @@ use Rattle.base_bits.specs.Read.{readBits}
 use Rattle.base_bits.specs.Reader.{got}
 use Rattle.base_bits.proofs.Steps.{value-lt}
 use Rattle.base_settings.specs.declared.loop_filter.LoopFilterParams.{LoopFilterParams}
-use Rattle.part_loop_deltas.specs.LoopDeltas.{withFlags, loopDeltasOf, withDeltas, movedRefs, movedModes, moved, refDeltasOf, modeDeltasOf, LoopDeltasValues, noLoopDeltas}
-use Rattle.grammar_tables.specs.Settings.{loopFilterOf, deltaValue}
+use Rattle.part_loop_deltas.specs.LoopDeltas.{withFlags, loopDeltasOf, withDeltas, movedRefs, movedModes, deltaMoved, refDeltasOf, modeDeltasOf, LoopDeltasValues, noLoopDeltas}
+use Rattle.grammar_settings.specs.Settings.{loopFilterOf, deltaValue}
 use mathlib.Core.Bool.{Bool, true, false}
 use Rattle.base_bits.specs.Syntax.{flag}
 use Rattle.part_coded.specs.Delta.{deltaOf}
@@ -31,7 +31,7 @@ byte-fits s p n r m c e t l = record { fits = omega (arith, value-lt s p n r m c
 module _ (old : LoopFilterParams) (l h e p : ℕ) where
   pub filter-moved : (d : LoopDeltasValues) → e ≡ 1
       → got (loopDeltasOf (withFlags old l h (eqb e 1) (old .«delta_update»)) d) p ≡ got (loopFilterOf false old (flatFilter l h e d)) p
-  unfolding loopFilterOf loopDeltasOf withDeltas movedRefs movedModes moved refDeltasOf modeDeltasOf deltaOf deltaValue
+  unfolding loopFilterOf loopDeltasOf withDeltas movedRefs movedModes deltaMoved refDeltasOf modeDeltasOf deltaOf deltaValue
   filter-moved d ee = go (flag (d .delta-update)) refl
     where
       go : (b : Bool) → flag (d .delta-update) ≡ b

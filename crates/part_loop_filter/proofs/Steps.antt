@@ -12,7 +12,7 @@ use Rattle.part_loop_deltas.specs.declared.LoopFilterRead.{LoopFilterRead}
 use Rattle.part_loop_deltas.specs.LoopDeltas.{viewLoopFilter}
 use Rattle.grammar_tables.specs.Tables.{LoopFilterValues}
 use Rattle.grammar_tables.specs.Reading.{readLoopFilter}
-use Rattle.grammar_tables.specs.Settings.{loopFilterOf}
+use Rattle.grammar_settings.specs.Settings.{loopFilterOf}
 use Rattle.part_loop_deltas.proofs.Steps.{settings-step, settings-stop}
 use mathlib.Core.Bool.{false}
 

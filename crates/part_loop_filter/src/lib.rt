@@ -3,7 +3,7 @@ ghost use mathlib.Core.Path.{_≡_};
 ghost use Rattle.base_bits.specs.Reader.{over};
 ghost use Rattle.part_loop_deltas.specs.LoopDeltas.{viewLoopFilter};
 ghost use Rattle.grammar_tables.specs.Reading.{readLoopFilter};
-ghost use Rattle.grammar_tables.specs.Settings.{loopFilterOf};
+ghost use Rattle.grammar_settings.specs.Settings.{loopFilterOf};
 ghost use mathlib.Core.Bool.{false};
 use base_bits::Bits;
 use base_bits::Cursor;

@@ -9,7 +9,7 @@ use Rattle.base_bits.specs.declared.Refusal.the-variants.{PastEnd}
 use Rattle.base_enums.specs.declared.InterpolationFilter.{InterpolationFilter}
 use Rattle.part_motion.specs.declared.FilterRead.{FilterRead}
 use Rattle.part_motion.specs.declared.FilterRead.the-variants.{Value, Short}
-use Rattle.grammar_tables.specs.Record.{interpolationOf}
+use Rattle.grammar_settings.specs.Enums.{interpolationOf}
 
 pub record FilterValues : Type 0 where
   pub is-filter-switchable : ℕ

@@ -11,17 +11,17 @@ use Rattle.part_opening.specs.declared.ProfileRead.{ProfileRead}
 use Rattle.part_opening.specs.declared.ProfileRead.the-variants.{Value as Profile, Refused as NoProfile}
 use Rattle.part_opening.specs.declared.SyncRead.{SyncRead}
 use Rattle.part_opening.specs.declared.SyncRead.the-variants.{Value as Synced, Refused as Unsynced}
-use Rattle.part_opening.specs.Profile.{ProfileValues, readProfile, profileNumber, viewProfile}
+use Rattle.part_opening.specs.Profile.{ProfileValues, readProfile, openingProfile, viewProfile}
 use Rattle.part_opening.specs.Sync.{syncOf, viewSync}
 use Rattle.grammar_tables.specs.Reading.{readSync}
 
 module _ {B D : Type 0} (s : List ℕ) (p : ℕ) (f : B → D) where
-  module _ (r : ProfileRead) (k : ProfileValues → ℕ → Read B) (e : viewProfile r ≡ over profileNumber (readProfile s p)) where
-    pub profile-step : (v : ℕ) (c : Cursor) (o : Got D) → r ≡ Profile v c → ((a : ProfileValues) → v ≡ profileNumber a → o ≡ over f (k a (c .at))) → o ≡ over f (bind (readProfile s p) k)
-    profile-step v c o h t = group-step profileNumber (readProfile s p) f k v (c .at) o (rw h at e) t
+  module _ (r : ProfileRead) (k : ProfileValues → ℕ → Read B) (e : viewProfile r ≡ over openingProfile (readProfile s p)) where
+    pub profile-step : (v : ℕ) (c : Cursor) (o : Got D) → r ≡ Profile v c → ((a : ProfileValues) → v ≡ openingProfile a → o ≡ over f (k a (c .at))) → o ≡ over f (bind (readProfile s p) k)
+    profile-step v c o h t = group-step openingProfile (readProfile s p) f k v (c .at) o (rw h at e) t
 
     pub profile-stop : (u : Refusal) → r ≡ NoProfile u → refused u ≡ over f (bind (readProfile s p) k)
-    profile-stop u h = group-stop profileNumber (readProfile s p) f k u (rw h at e)
+    profile-stop u h = group-stop openingProfile (readProfile s p) f k u (rw h at e)
 
   module _ (r : SyncRead) (k : ℕ → ℕ → Read B) (e : viewSync r ≡ over syncOf (readSync s p)) where
     pub sync-step : (c : Cursor) (o : Got D) → r ≡ Synced c → ((a : ℕ) → o ≡ over f (k a (c .at))) → o ≡ over f (bind (readSync s p) k)

@@ -4,7 +4,7 @@ use Prim.Native.Nat.{ℕ}
 use Rattle.base_bits.specs.Refusal.{the}
 use Rattle.base_bits.specs.Syntax.{flag}
 use Rattle.base_bits.specs.Reader.{Got, got, refused, Reader, give, field, fieldIf, _>>=_}
-use Rattle.part_opening.specs.Profile.{ProfileValues, readProfile, profileNumber}
+use Rattle.part_opening.specs.Profile.{ProfileValues, readProfile, openingProfile}
 use Rattle.part_opening.specs.declared.Opening.{Opening}
 use Rattle.part_opening.specs.declared.OpeningRead.{OpeningRead}
 use Rattle.part_opening.specs.declared.OpeningRead.the-variants.{Value, Refused}
@@ -26,7 +26,7 @@ readOpening = do
 unfoldable pub openingOf : OpeningValues → Opening
 openingOf v =
     record {
-      profile = profileNumber (v .profile);
+      profile = openingProfile (v .profile);
       «show_existing_frame» = flag (v .show-existing-frame);
       «frame_to_show_map_idx» = v .frame-to-show-map-idx;
     }

@@ -14,8 +14,8 @@ pub record ProfileValues : Type 0 where
   pub reserved-zero : ℕ
 
 -- Profile, from its two bits
-abbrev pub profileNumber : ProfileValues → ℕ
-profileNumber v = v .profile-high-bit * 2 + v .profile-low-bit
+abbrev pub openingProfile : ProfileValues → ℕ
+openingProfile v = v .profile-high-bit * 2 + v .profile-low-bit
 
 -- reading
 unfoldable pub readProfile : Reader ProfileValues

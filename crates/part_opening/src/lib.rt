@@ -1,7 +1,7 @@
 // How a header starts, marker and profile and the frame that is shown again, and the sync code.
 ghost use mathlib.Core.Path.{_≡_};
 ghost use Rattle.base_bits.specs.Reader.{over};
-ghost use Rattle.part_opening.specs.Profile.{readProfile, profileNumber, viewProfile};
+ghost use Rattle.part_opening.specs.Profile.{readProfile, openingProfile, viewProfile};
 ghost use Rattle.part_opening.specs.Opening.{readOpening, openingOf, viewOpening};
 ghost use Rattle.part_opening.specs.Sync.{syncOf, viewSync};
 ghost use Rattle.grammar_tables.specs.Reading.{readSync};
@@ -16,7 +16,7 @@ pub enum ProfileRead {
 
 // The profile's number. Profile 3 has a reserved bit after it, which may be 1.
 fn parse_profile(s: &[u8], c: Cursor) -> ProfileRead
-    ensures { λ r. ⌜ viewProfile r ≡ over profileNumber (readProfile (now (s .entry)) (c .at)) ⌝ }
+    ensures { λ r. ⌜ viewProfile r ≡ over openingProfile (readProfile (now (s .entry)) (c .at)) ⌝ }
 {
     let Bits::Value(marker, c1) = base_bits::read_bits(s, c, 2) else {
         return ProfileRead::Refused(Refusal::PastEnd);

@@ -9,7 +9,7 @@ use Rattle.part_quantization.specs.declared.QuantizerRead.{QuantizerRead
 use Rattle.part_quantization.specs.declared.QuantizerRead.the-variants.{Value as Quantizer, Short as NoQuantizer}
 use Rattle.part_quantization.specs.Quantizer.{viewQuantizer}
 use Rattle.grammar_tables.specs.Reading.{readQuantizer}
-use Rattle.grammar_tables.specs.Settings.{quantizerOf}
+use Rattle.grammar_settings.specs.Settings.{quantizerOf}
 
 -- the answer that an answer of the definition is
 asQuantizer : Got QuantizationParams → QuantizerRead

@@ -20,7 +20,7 @@ use Rattle.base_bits.proofs.Steps.{value-lt}
 use Rattle.part_coded.specs.declared.Delta.{Delta}
 use Rattle.part_coded.specs.Delta.{deltaOf}
 use Rattle.grammar_tables.specs.Tables.{DeltaValues}
-use Rattle.grammar_tables.specs.Settings.{quantizerOf, deltaValue}
+use Rattle.grammar_settings.specs.Settings.{quantizerOf, deltaValue}
 
 pub base-fits : (s : List ℕ) (p : ℕ) (r : Bits) (n : ℕ) (c : Cursor) → r ≡ readBits s p 8 → r ≡ Value n c → Fits w8 n
 base-fits s p r n c e t = record { fits = value-lt s p 8 r n c e t tt }

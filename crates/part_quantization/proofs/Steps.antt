@@ -19,7 +19,7 @@ use Rattle.part_quantization.specs.declared.QuantizerRead.{QuantizerRead
 use Rattle.part_quantization.specs.declared.QuantizerRead.the-variants.{Value as Quantizer, Short as NoQuantizer}
 use Rattle.part_quantization.specs.Quantizer.{viewDeltaQ, DeltaQIs, viewQuantizer}
 use Rattle.grammar_tables.specs.Reading.{readDeltaQ, readQuantizer}
-use Rattle.grammar_tables.specs.Settings.{quantizerOf, deltaValue}
+use Rattle.grammar_settings.specs.Settings.{quantizerOf, deltaValue}
 use Rattle.part_quantization.proofs.DeltaQRead.{the-type as the-delta-q}
 use Rattle.part_quantization.proofs.QuantizerRead.{the-type as the-quantizer}
 

@@ -12,7 +12,7 @@ use Rattle.part_quantization.specs.declared.DeltaQRead.the-variants.{Val
 use Rattle.part_quantization.specs.declared.QuantizerRead.{QuantizerRead}
 use Rattle.part_quantization.specs.declared.QuantizerRead.the-variants.{Value, Short}
 use Rattle.grammar_tables.specs.Reading.{readDeltaQ}
-use Rattle.grammar_tables.specs.Settings.{deltaValue}
+use Rattle.grammar_settings.specs.Settings.{deltaValue}
 
 -- the code's answer
 abbrev pub viewDeltaQ : DeltaQRead → Got ℤ

@@ -3,7 +3,7 @@ ghost use mathlib.Core.Path.{_≡_};
 ghost use Rattle.base_bits.specs.Reader.{over};
 ghost use Rattle.part_quantization.specs.Quantizer.{viewQuantizer, DeltaQIs};
 ghost use Rattle.grammar_tables.specs.Reading.{readQuantizer};
-ghost use Rattle.grammar_tables.specs.Settings.{quantizerOf, lossless};
+ghost use Rattle.grammar_settings.specs.Settings.{quantizerOf, lossless};
 use base_bits::Bits;
 use base_bits::Cursor;
 use base_settings::QuantizationParams;

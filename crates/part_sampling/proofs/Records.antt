@@ -5,10 +5,10 @@ use mathlib.Core.Path.{_≡_}
 use lib.Dec.{eqb, leb}
 use borrow.Author.Tests.{eq-eqb, ne-eqb, le-leb, lt-leb}
 use Rattle.base_bits.specs.Reader.{got}
-use Rattle.base_bits.specs.Syntax.{pick}
+use Rattle.base_shared.specs.Choice.{pick}
 use Rattle.part_sampling.specs.declared.Sampling.{Sampling}
 use Rattle.part_sampling.specs.Sampling.{samplingOf}
-use Rattle.grammar_tables.specs.Record.{rangeOf, subsampling}
+use Rattle.grammar_settings.specs.Enums.{rangeOf, subsampling}
 
 -- a choice by a test, as a step along the branch that the code took
 module _ {A : Type 0} (a b : ℕ) (x p q : A) where

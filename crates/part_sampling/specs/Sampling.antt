@@ -8,7 +8,7 @@ use Rattle.part_sampling.specs.declared.Sampling.{Sampling}
 use Rattle.part_sampling.specs.declared.SamplingRead.{SamplingRead}
 use Rattle.part_sampling.specs.declared.SamplingRead.the-variants.{Value, Short}
 use Rattle.grammar_tables.specs.Tables.{sampled, srgb}
-use Rattle.grammar_tables.specs.Record.{rangeOf, subsampling}
+use Rattle.grammar_settings.specs.Enums.{rangeOf, subsampling}
 use Rattle.base_bits.specs.Refusal.{the}
 
 pub record SamplingValues : Type 0 where

@@ -2,7 +2,7 @@
 ghost use mathlib.Core.Path.{_≡_};
 ghost use Rattle.base_bits.specs.Reader.{over};
 ghost use Rattle.part_sampling.specs.Sampling.{samplingOf, viewSampling, readSampling};
-ghost use Rattle.grammar_tables.specs.Record.{rangeOf, subsampling};
+ghost use Rattle.grammar_settings.specs.Enums.{rangeOf, subsampling};
 use base_bits::Bits;
 use base_bits::Cursor;
 use base_enums::ColorRange;

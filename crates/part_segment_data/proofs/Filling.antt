@@ -20,8 +20,8 @@ use Rattle.base_bits.specs.Many.{eachOf}
 use Rattle.part_feature.specs.Feature.{featureOf, FeatureIs}
 use Rattle.grammar_tables.specs.Tables.{FeatureValues}
 use Rattle.grammar_tables.specs.Reading.{readFeature, readFeatures}
-use Rattle.grammar_tables.specs.Settings.{enabledOf, dataValue, rowOf}
-use Rattle.part_segment_data.specs.Features.{featuresOf}
+use Rattle.grammar_settings.specs.Settings.{enabledOf, dataValue, featureRow}
+use Rattle.part_segment_data.specs.Features.{featureRows}
 use Rattle.part_segment_map.proofs.Rows.{seen, unseen, both, Filled, fill-start, fill-turn, fill-stop, fill-end}
 use Rattle.part_segment_data.proofs.Flat.{row-flat}
 
@@ -45,18 +45,18 @@ features-start s p = record {
 }
 
 module _ {s : List ℕ} {p₀ k p : ℕ} {e : List Bool} {l : List ℤ} (h : FeaturesFilling s p₀ k p e l) where
-  pub features-end : 32 ≤ k → got (record { enabled = e; values = l }) p ≡ over featuresOf (readFeatures s p₀)
-  unfolding featuresOf readFeatures
+  pub features-end : 32 ≤ k → got (record { enabled = e; values = l }) p ≡ over featureRows (readFeatures s p₀)
+  unfolding featureRows readFeatures
   features-end all =
-      both (rowOf enabledOf 8) (rowOf dataValue 8) (λ a b. record { enabled = a; values = b }) (readFeatures s p₀)
+      both (featureRow enabledOf 8) (featureRow dataValue 8) (λ a b. record { enabled = a; values = b }) (readFeatures s p₀)
       (fill-end (h .enabled) all ∙ row-flat enabledOf readFeature s p₀)
       (fill-end (h .values) all ∙ row-flat dataValue readFeature s p₀)
 
   module _ (r : FeatureRead) (x : FeatureIs s p (k % 4) r) (more : k < 32) where
-    pub features-cut : r ≡ Short → refused PastEnd ≡ over featuresOf (readFeatures s p₀)
+    pub features-cut : r ≡ Short → refused PastEnd ≡ over featureRows (readFeatures s p₀)
     unfolding readFeatures
     features-cut t =
-        unseen featuresOf (rowOf enabledOf 8) (readFeatures s p₀)
+        unseen featureRows (featureRow enabledOf 8) (readFeatures s p₀)
         (fill-stop (h .enabled) (eachOf enabledOf 32) more (unseen enabledOf featureOf (placed k s p) (rw t at (x (k / 4)))) ∙ row-flat enabledOf readFeature s p₀)
 
     pub features-turn : (f : Feature) (c : Cursor) → r ≡ Value f c → SFits w16 (f .value) → FeaturesFilling s p₀ (k + 1) (c .at) (set e k (f .enabled)) (set l k (toZ w16 (ofZ w16 (f .value))))

@@ -9,7 +9,7 @@ use Rattle.base_bits.specs.Reader.{Got, got, refused, over, Reader}
 use Rattle.base_bits.specs.Many.{Times, many, folds, eachOf}
 use Rattle.base_bits.proofs.Many.{turn, turn-stop}
 use Rattle.grammar_tables.specs.Tables.{FeatureValues}
-use Rattle.grammar_tables.specs.Settings.{rowOf}
+use Rattle.grammar_settings.specs.Settings.{featureRow}
 use Rattle.part_segment_map.proofs.Rows.{grown, grown-each, over-same}
 
 -- what comes after an answer
@@ -81,15 +81,15 @@ module _ {A S : Type 0} (f : S → A → S) (s : List ℕ) (r : ℕ → ℕ → 
       (follow-same (run f s (r i) 0 4 st p) (run (folds f 4) s (λ i. many 0 4 (r i)) (i + 1) n) (run f s flat ((i + 1) * 4) (n * 4)) (run-flat (i + 1) n))
 
 module _ {B : Type 0} (f : FeatureValues → B) where
-  grown-rows : (n : ℕ) (l : List B) (v : Times n (Times 4 FeatureValues)) → folds (folds (grown f) 4) n l v ≡ l ++ rowOf f n v
+  grown-rows : (n : ℕ) (l : List B) (v : Times n (Times 4 FeatureValues)) → folds (folds (grown f) 4) n l v ≡ l ++ featureRow f n v
   unfolding folds
   grown-rows zero l v = sym (append-nil l)
   grown-rows (suc n) l v = grown-rows n (folds (grown f) 4 l (v .0)) (v .1) ∙ simp append-assoc
 
   -- the row of all features
   pub row-flat : (r : ℕ → ℕ → Reader FeatureValues) (s : List ℕ) (p : ℕ)
-      → over (eachOf f 32) (many 0 32 (λ k. r (k / 4) (k % 4)) s p) ≡ over (rowOf f 8) (many 0 8 (λ i. many 0 4 (r i)) s p)
+      → over (eachOf f 32) (many 0 32 (λ k. r (k / 4) (k % 4)) s p) ≡ over (featureRow f 8) (many 0 8 (λ i. many 0 4 (r i)) s p)
   row-flat r s p =
       sym (over-same (folds (grown f) 32 []) (eachOf f 32) (many 0 32 (flat (grown f) s r) s p) (grown-each f 32 []))
       ∙ sym (run-flat (grown f) s r 0 8 [] p)
-      ∙ over-same (folds (folds (grown f) 4) 8 []) (rowOf f 8) (many 0 8 (λ i. many 0 4 (r i)) s p) (grown-rows 8 [])
+      ∙ over-same (folds (folds (grown f) 4) 8 []) (featureRow f 8) (many 0 8 (λ i. many 0 4 (r i)) s p) (grown-rows 8 [])

@@ -7,12 +7,12 @@ use borrow.Author.Tests.{eq-eqb, ne-eqb}
 use Rattle.base_bits.specs.Reader.{got}
 use Rattle.base_settings.specs.declared.segmentation.SegmentationParams.{SegmentationParams}
 use Rattle.part_segment_data.specs.declared.Features.{Features}
-use Rattle.part_segment_data.specs.Features.{FeaturesValues, featuresOf}
+use Rattle.part_segment_data.specs.Features.{FeaturesValues, featureRows}
 use Rattle.part_segment_data.specs.Data.{withData, dataOf}
 
 -- the settings after the features' part
 module _ (old : SegmentationParams) (d a p : ℕ) (v : FeaturesValues) where
-  pub data-read : (f : Features) → d ≡ 1 → f ≡ featuresOf v
+  pub data-read : (f : Features) → d ≡ 1 → f ≡ featureRows v
       → got (withData old (eqb d 1) (eqb a 1) (f .enabled) (f .values)) p ≡ got (dataOf old (record { update-data = d; abs-or-delta-update = a; features = v })) p
   unfolding dataOf
   data-read f ed ef = rw (eq-eqb d 1 ed, ef)

@@ -5,12 +5,13 @@ use mathlib.Core.Bool.{Bool, true, false}
 use mathlib.Core.Path.{_≡_}
 use mathlib.Core.List.{List}
 use lib.IntN.{ℤ}
-use Rattle.base_bits.specs.Syntax.{flag, pick}
+use Rattle.base_shared.specs.Choice.{pick}
+use Rattle.base_bits.specs.Syntax.{flag}
 use Rattle.base_bits.specs.Reader.{over, _>>=_, field, fieldIf, groupIf, Reader, give}
 use Rattle.base_settings.specs.declared.segmentation.SegmentationParams.{SegmentationParams}
 use Rattle.part_segment_map.specs.declared.SegmentationRead.{SegmentationRead}
-use Rattle.part_segment_map.specs.Answer.{viewSegmentation, Kept}
-use Rattle.part_segment_data.specs.Features.{featuresOf}
+use Rattle.part_segment_map.specs.Answer.{viewSegmentation, SegmentationKept}
+use Rattle.part_segment_data.specs.Features.{featureRows}
 use Rattle.grammar_tables.specs.Tables.{FeatureValues}
 use Rattle.grammar_tables.specs.Reading.{noFeatures, readFeatures}
 use Rattle.base_bits.specs.Refusal.{the}
@@ -50,9 +51,9 @@ withData old update absolute enabled values =
 unfoldable pub dataOf : SegmentationParams → DataValues → SegmentationParams
 dataOf old v =
     pick (flag (v .update-data))
-    (withData old true (flag (v .abs-or-delta-update)) (featuresOf (v .features) .enabled) (featuresOf (v .features) .values))
+    (withData old true (flag (v .abs-or-delta-update)) (featureRows (v .features) .enabled) (featureRows (v .features) .values))
     (withData old false (old .«abs_or_delta_update») (old .«feature_enabled») (old .«feature_data»))
 
 -- what `parse_data` answers, from the remembered settings
 abbrev pub DataIs : List ℕ → ℕ → SegmentationParams → SegmentationRead → Type 0
-DataIs s p old r = (viewSegmentation r ≡ over (dataOf old) (readData s p)) × Kept old (r .seg) (r .next)
+DataIs s p old r = (viewSegmentation r ≡ over (dataOf old) (readData s p)) × SegmentationKept old (r .seg) (r .next)

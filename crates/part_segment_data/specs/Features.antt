@@ -3,7 +3,7 @@
 use Rattle.base_bits.specs.Reader.{Got, viewNext}
 use Rattle.base_bits.specs.Many.{Times}
 use Rattle.grammar_tables.specs.Tables.{FeatureValues}
-use Rattle.grammar_tables.specs.Settings.{enabledOf, dataValue, rowOf}
+use Rattle.grammar_settings.specs.Settings.{enabledOf, dataValue, featureRow}
 use Rattle.part_segment_data.specs.declared.Features.{Features}
 use Rattle.part_segment_data.specs.declared.FeaturesRead.{FeaturesRead}
 
@@ -11,8 +11,8 @@ abbrev pub FeaturesValues : Type 0
 FeaturesValues = Times 8 (Times 4 FeatureValues)
 
 -- the code's answer
-unfoldable pub featuresOf : FeaturesValues → Features
-featuresOf v = record { enabled = rowOf enabledOf 8 v; values = rowOf dataValue 8 v }
+unfoldable pub featureRows : FeaturesValues → Features
+featureRows v = record { enabled = featureRow enabledOf 8 v; values = featureRow dataValue 8 v }
 
 abbrev pub viewFeatures : FeaturesRead → Got Features
 viewFeatures r = viewNext (r .features) (r .next)

@@ -1,7 +1,7 @@
 // The features' part of segmentation_params().
 ghost use mathlib.Core.Path.{_≡_};
 ghost use Rattle.base_bits.specs.Reader.{over};
-ghost use Rattle.part_segment_data.specs.Features.{featuresOf, viewFeatures};
+ghost use Rattle.part_segment_data.specs.Features.{featureRows, viewFeatures};
 ghost use Rattle.grammar_tables.specs.Reading.{readFeatures};
 ghost use Rattle.part_segment_data.specs.Data.{DataIs};
 use base_bits::Bits;
@@ -24,7 +24,7 @@ struct FeaturesRead {
 }
 
 fn parse_features(s: &[u8], c: Cursor) -> FeaturesRead
-    ensures { λ r. ⌜ viewFeatures r ≡ over featuresOf (readFeatures (now (s .entry)) (c .at)) ⌝ }
+    ensures { λ r. ⌜ viewFeatures r ≡ over featureRows (readFeatures (now (s .entry)) (c .at)) ⌝ }
 {
     let mut enabled = [false; SegmentationParams::FEATURES];
     let mut values = [0; SegmentationParams::FEATURES];

@@ -8,7 +8,7 @@ use Rattle.base_bits.specs.declared.Next.the-variants.{At, Refused}
 use Rattle.base_bits.specs.Reader.{Got, got, refused, viewNext}
 use Rattle.base_settings.specs.declared.segmentation.SegmentationParams.{SegmentationParams}
 use Rattle.part_segment_map.specs.declared.SegmentationRead.{SegmentationRead}
-use Rattle.part_segment_map.specs.Answer.{Kept, viewSegmentation}
+use Rattle.part_segment_map.specs.Answer.{SegmentationKept, viewSegmentation}
 use Rattle.part_segment_map.specs.Map.{MapIs}
 
 -- the answer that an answer of the definition is
@@ -16,13 +16,13 @@ asSegmentation : SegmentationParams → Got SegmentationParams → SegmentationR
 asSegmentation old (got a p) = record { seg = a; next = At (record { at = p }) }
 asSegmentation old (refused e) = record { seg = old; next = Refused e }
 
-exact-segmentation : (old seg : SegmentationParams) (n : Next) (g : Got SegmentationParams) → viewNext seg n ≡ g → Kept old seg n → record { seg = seg; next = n } ≡ asSegmentation old g
+exact-segmentation : (old seg : SegmentationParams) (n : Next) (g : Got SegmentationParams) → viewNext seg n ≡ g → SegmentationKept old seg n → record { seg = seg; next = n } ≡ asSegmentation old g
 unfolding asSegmentation
 exact-segmentation old seg (At c) g h k = rw (← h)
 exact-segmentation old seg (Refused e) g h k = rw (← h, k)
 
 pub one-kept : (old : SegmentationParams) (x : Got SegmentationParams) (r q : SegmentationRead)
-    → (viewSegmentation r ≡ x) × Kept old (r .seg) (r .next) → (viewSegmentation q ≡ x) × Kept old (q .seg) (q .next) → r ≡ q
+    → (viewSegmentation r ≡ x) × SegmentationKept old (r .seg) (r .next) → (viewSegmentation q ≡ x) × SegmentationKept old (q .seg) (q .next) → r ≡ q
 one-kept old x r q h k = exact-segmentation old (r .seg) (r .next) x (h .0) (h .1) ∙ sym (exact-segmentation old (q .seg) (q .next) x (k .0) (k .1))
 
 pub one-map : (s : List ℕ) (p : ℕ) (old : SegmentationParams) (r q : SegmentationRead) → MapIs s p old r → MapIs s p old q → r ≡ q

@@ -15,7 +15,7 @@ use Rattle.part_coded.specs.declared.ProbRead.the-variants.{Value as Prob, Shor
 use Rattle.part_coded.specs.Prob.{ProbIs}
 use Rattle.grammar_tables.specs.Tables.{ProbValues}
 use Rattle.grammar_tables.specs.Reading.{readProb, readProbs}
-use Rattle.grammar_tables.specs.Settings.{probOf}
+use Rattle.grammar_settings.specs.Settings.{probOf}
 use Rattle.part_segment_map.specs.Probs.{probsOf}
 use Rattle.part_segment_map.proofs.Rows.{Filled, fill-start, fill-turn, fill-stop, fill-end}
 

@@ -12,13 +12,13 @@ use Rattle.base_bits.specs.declared.Next.{Next}
 use Rattle.base_bits.specs.declared.Next.the-variants.{At, Refused}
 use Rattle.base_bits.specs.Reader.{got, groupIf}
 use Rattle.grammar_tables.specs.Reading.{noProb}
-use Rattle.grammar_tables.specs.Settings.{probOf}
+use Rattle.grammar_settings.specs.Settings.{probOf}
 use Rattle.base_settings.specs.declared.segmentation.SegmentationParams.{SegmentationParams}
 use Rattle.part_segment_map.specs.declared.ProbsRead.{ProbsRead}
 use Rattle.base_bits.specs.Many.{eachOf}
 use Rattle.part_segment_map.specs.Probs.{ProbsValues, probsOf, ProbsAre, ProbsAreIf}
 use Rattle.part_segment_map.specs.Map.{withMap, mapOf}
-use Rattle.part_segment_map.specs.Answer.{Kept}
+use Rattle.part_segment_map.specs.Answer.{SegmentationKept}
 use Rattle.part_segment_map.proofs.Rows.{same-row}
 
 -- probabilities that are there only if a test holds
@@ -46,9 +46,9 @@ module _ (old : SegmentationParams) (m u p : ℕ) (t : ProbsValues 7) (v : Probs
   map-kept nm = rw (ne-eqb m 1 nm)
 
 -- the settings that a refusal hands back, and where there is none
-pub old-kept : (old : SegmentationParams) (n : Next) → Kept old old n
+pub old-kept : (old : SegmentationParams) (n : Next) → SegmentationKept old old n
 old-kept old (At c) = tt
 old-kept old (Refused e) = refl
 
-pub none-kept : (old seg : SegmentationParams) (n : Next) (c : Cursor) → n ≡ At c → Kept old seg n
+pub none-kept : (old seg : SegmentationParams) (n : Next) (c : Cursor) → n ≡ At c → SegmentationKept old seg n
 none-kept old seg n c h = rw h tt

@@ -11,6 +11,6 @@ abbrev pub viewSegmentation : SegmentationRead → Got SegmentationParams
 viewSegmentation r = viewNext (r .seg) (r .next)
 
 -- a refusal hands the old settings back
-abbrev pub Kept : SegmentationParams → SegmentationParams → Next → Type 0
-Kept old seg (At c) = Unit
-Kept old seg (Refused e) = seg ≡ old
+abbrev pub SegmentationKept : SegmentationParams → SegmentationParams → Next → Type 0
+SegmentationKept old seg (At c) = Unit
+SegmentationKept old seg (Refused e) = seg ≡ old

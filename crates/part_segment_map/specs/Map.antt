@@ -4,12 +4,13 @@ use Prim.Native.Nat.{ℕ}
 use mathlib.Core.Bool.{Bool, true, false}
 use mathlib.Core.Path.{_≡_}
 use mathlib.Core.List.{List}
-use Rattle.base_bits.specs.Syntax.{flag, pick}
+use Rattle.base_shared.specs.Choice.{pick}
+use Rattle.base_bits.specs.Syntax.{flag}
 use Rattle.base_bits.specs.Reader.{over, _>>=_, field, fieldIf, groupIf, Reader, give}
-use Rattle.grammar_tables.specs.Settings.{probOf}
+use Rattle.grammar_settings.specs.Settings.{probOf}
 use Rattle.base_settings.specs.declared.segmentation.SegmentationParams.{SegmentationParams}
 use Rattle.part_segment_map.specs.declared.SegmentationRead.{SegmentationRead}
-use Rattle.part_segment_map.specs.Answer.{viewSegmentation, Kept}
+use Rattle.part_segment_map.specs.Answer.{viewSegmentation, SegmentationKept}
 use Rattle.base_bits.specs.Many.{eachOf, Times}
 use Rattle.grammar_tables.specs.Tables.{ProbValues}
 use Rattle.grammar_tables.specs.Reading.{noProbs, readProbs}
@@ -56,4 +57,4 @@ mapOf old v =
 
 -- what `parse_map` answers, from the remembered settings
 abbrev pub MapIs : List ℕ → ℕ → SegmentationParams → SegmentationRead → Type 0
-MapIs s p old r = (viewSegmentation r ≡ over (mapOf old) (readMap s p)) × Kept old (r .seg) (r .next)
+MapIs s p old r = (viewSegmentation r ≡ over (mapOf old) (readMap s p)) × SegmentationKept old (r .seg) (r .next)

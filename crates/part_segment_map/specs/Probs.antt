@@ -9,7 +9,7 @@ use lib.ListN.{drop, replicate}
 use Rattle.base_bits.specs.Reader.{Got, groupIf, over, viewNext}
 use Rattle.base_bits.specs.Many.{Times, eachOf}
 use Rattle.grammar_tables.specs.Tables.{ProbValues}
-use Rattle.grammar_tables.specs.Settings.{probOf}
+use Rattle.grammar_settings.specs.Settings.{probOf}
 use Rattle.part_segment_map.specs.declared.ProbsRead.{ProbsRead}
 use Rattle.grammar_tables.specs.Reading.{noProbs, readProbs}
 

@@ -11,10 +11,10 @@ use Rattle.base_settings.specs.declared.segmentation.SegmentationParams.{Segmen
 use Rattle.part_segment_map.specs.Map.{mapOf, MapValues, noMap}
 use Rattle.part_segment_data.specs.Data.{DataValues, noData, dataOf}
 use Rattle.part_segmentation.specs.Segmentation.{switched}
-use Rattle.grammar_tables.specs.Settings.{segmentationOf}
+use Rattle.grammar_settings.specs.Settings.{segmentationOf}
 use mathlib.Core.Bool.{Bool, true, false}
 use Rattle.base_bits.specs.Syntax.{flag}
-use Rattle.part_segment_data.specs.Features.{featuresOf}
+use Rattle.part_segment_data.specs.Features.{featureRows}
 use Rattle.part_segmentation.proofs.Parts.{flatSegmentation}
 
 -- the settings where segmentation is off, and where both parts were read
@@ -24,7 +24,7 @@ off-read old e p = refl
 
 both : (old : SegmentationParams) (e : ℕ) (map : MapValues) (features : DataValues) (m d : Bool) → flag (map .update-map) ≡ m → flag (features .update-data) ≡ d
     → dataOf (mapOf (switched old (flag e)) map) features ≡ segmentationOf false old (flatSegmentation e map features)
-unfolding segmentationOf mapOf dataOf featuresOf
+unfolding segmentationOf mapOf dataOf featureRows
 both old e map features true true em ed = rw (em, ed)
 both old e map features true false em ed = rw (em, ed)
 both old e map features false true em ed = rw (em, ed)

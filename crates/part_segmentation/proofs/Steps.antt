@@ -13,7 +13,7 @@ use Rattle.part_segment_map.specs.declared.SegmentationRead.{SegmentationRead}
 use Rattle.part_segmentation.specs.Segmentation.{SegmentationIs}
 use Rattle.grammar_tables.specs.Tables.{SegmentationValues}
 use Rattle.grammar_tables.specs.Reading.{readSegmentation}
-use Rattle.grammar_tables.specs.Settings.{segmentationOf}
+use Rattle.grammar_settings.specs.Settings.{segmentationOf}
 use Rattle.part_segment_map.proofs.Steps.{beside-step}
 use mathlib.Core.Bool.{false}
 

@@ -6,9 +6,9 @@ use mathlib.Core.Path.{_≡_}
 use mathlib.Core.List.{List}
 use Rattle.base_bits.specs.Reader.{over}
 use Rattle.base_settings.specs.declared.segmentation.SegmentationParams.{SegmentationParams}
-use Rattle.part_segment_map.specs.Answer.{viewSegmentation, Kept}
+use Rattle.part_segment_map.specs.Answer.{viewSegmentation, SegmentationKept}
 use Rattle.part_segment_map.specs.declared.SegmentationRead.{SegmentationRead}
-use Rattle.grammar_tables.specs.Settings.{segmentationOf}
+use Rattle.grammar_settings.specs.Settings.{segmentationOf}
 use Rattle.grammar_tables.specs.Reading.{readSegmentation}
 
 -- the code's answer: with segmentation on or off, the two updates become false first
@@ -28,4 +28,4 @@ switched old on =
 
 -- what `parse_segmentation_params` answers, from the remembered settings
 abbrev pub SegmentationIs : List ℕ → ℕ → SegmentationParams → SegmentationRead → Type 0
-SegmentationIs s p old r = (viewSegmentation r ≡ over (segmentationOf false old) (readSegmentation s p)) × Kept old (r .seg) (r .next)
+SegmentationIs s p old r = (viewSegmentation r ≡ over (segmentationOf false old) (readSegmentation s p)) × SegmentationKept old (r .seg) (r .next)

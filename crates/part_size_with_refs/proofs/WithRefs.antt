@@ -10,7 +10,7 @@ use lib.ListN.{length, List·getD-eq-default}
 use Rattle.base_bits.specs.declared.Cursor.{Cursor}
 use Rattle.base_bits.specs.declared.Refusal.the-variants.{PastEnd}
 use Rattle.base_bits.specs.Reader.{Got, Read, read, stopped, got, refused, bind, groupIf, over, Reader, give, field, fieldIf, _>>=_}
-use Rattle.base_bits.specs.Syntax.{pick}
+use Rattle.base_shared.specs.Choice.{pick}
 use Rattle.base_bits.proofs.Steps.{group-step, group-stop, tail}
 use Rattle.grammar_tables.specs.Reading.{readRun, noSizeValues, readFrameSize, readRender, readFound}
 use Rattle.part_coded.proofs.Run.{Counted, counted-full}

@@ -7,7 +7,6 @@ ghost use Rattle.part_size_with_refs.specs.SizeWithRefs.{FoundIs, refSlo
 use base_bits::Bits;
 use base_bits::Cursor;
 use base_settings::FrameSize;
-use base_types::ReaderState;
 use part_refs::Refs;
 use part_sizes::SizesRead;
 
@@ -52,11 +51,11 @@ fn ref_slot(refs: Refs, i: usize) -> u8
 }
 
 // The size that a slot remembers: 0x0 past the last slot.
-fn slot_size(slots: [FrameSize; ReaderState::REF_FRAMES], slot: u8) -> FrameSize
+fn slot_size(slots: [FrameSize; FrameSize::REMEMBERED], slot: u8) -> FrameSize
     ensures { λ r. ⌜ r ≡ slotSize slots slot ⌝ }
 {
     let i = slot as usize;
-    if i < ReaderState::REF_FRAMES {
+    if i < FrameSize::REMEMBERED {
         slots[i]
     } else {
         FrameSize::none()
@@ -68,7 +67,7 @@ pub fn parse_frame_size_with_refs(
     s: &[u8],
     c: Cursor,
     refs: Refs,
-    slots: [FrameSize; ReaderState::REF_FRAMES],
+    slots: [FrameSize; FrameSize::REMEMBERED],
 ) -> SizesRead
     ensures { λ r. ⌜ viewSizes r ≡ over (sizeWithRefsOf slots refs) (readSizeWithRefs (now (s .entry)) (c .at)) ⌝ }
 {

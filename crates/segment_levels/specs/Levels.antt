@@ -6,13 +6,13 @@ use lib.Dec.{eqb}
 use lib.ListN.{getD}
 use lib.IntN.{ℤ, pos, _+ℤ_, _*ℤ_}
 use Rattle.base_settings.specs.declared.loop_filter.LoopFilterParams.{LoopFilterParams}
-use Rattle.base_enums.specs.Numbered.{pick}
+use Rattle.base_shared.specs.Choice.{pick}
 use Rattle.segment_clamp.specs.Clamp.{clampTo, changed}
 use Rattle.segment_grid.specs.Grid.{level}
 
 -- a level with a delta added, from 0 to 63
-unfoldable pub moved : ℕ → ℤ → ℕ
-moved l delta = clampTo 63 (pos l +ℤ delta)
+unfoldable pub levelMoved : ℕ → ℤ → ℕ
+levelMoved l delta = clampTo 63 (pos l +ℤ delta)
 
 -- a delta times 2^n, where n is the frame's level / 32 rounded down
 unfoldable pub scaled : ℕ → ℤ → ℤ
@@ -27,12 +27,12 @@ unfoldable pub pairOf : ℕ → ℕ → ℤ → List ℤ → List ℕ
 pairOf frame l reference modes = mode 0 ∷ mode 1 ∷ []
   where
     mode : ℕ → ℕ
-    mode m = moved l (scaled frame reference +ℤ scaled frame (getD modes m (pos 0)))
+    mode m = levelMoved l (scaled frame reference +ℤ scaled frame (getD modes m (pos 0)))
 
 -- intra has no modes: it adds its delta alone, and its second place keeps the old level, as in the source
 unfoldable pub deltaGrid : ℕ → ℕ → List ℤ → List ℤ → List (List ℕ) → List (List ℕ)
 deltaGrid frame l refs modes old =
-    (moved l (scaled frame (reference 0)) ∷ level old 0 1 ∷ [])
+    (levelMoved l (scaled frame (reference 0)) ∷ level old 0 1 ∷ [])
     ∷ pairOf frame l (reference 1) modes
     ∷ pairOf frame l (reference 2) modes
     ∷ pairOf frame l (reference 3) modes

@@ -1,7 +1,7 @@
 // The filter levels of a segment: VP9's loop filter frame init process, section 8.8.1.
 ghost use mathlib.Core.Path.{_≡_};
 ghost use lib.IntN.{_+ℤ_};
-ghost use Rattle.segment_levels.specs.Levels.{scaled, moved, pairOf, deltaGrid, levelsAt};
+ghost use Rattle.segment_levels.specs.Levels.{scaled, levelMoved, pairOf, deltaGrid, levelsAt};
 ghost use Rattle.segment_levels.specs.Once.{frameLevels, kept, levelsFrom};
 use base_settings::LoopFilterParams;
 use segment_grid::Grid;
@@ -23,7 +23,7 @@ fn both(frame: u8, reference: i8, mode: i8) -> i16
 }
 
 fn add(level: u8, delta: i16) -> u8
-    ensures { λ r. ⌜ r ≡ moved level delta ⌝ }
+    ensures { λ r. ⌜ r ≡ levelMoved level delta ⌝ }
 {
     segment_clamp::moved_by(level, delta, MAX_LEVEL)
 }

@@ -7,7 +7,7 @@ use Rattle.base_enums.specs.declared.BitDepth.{BitDepth}
 use Rattle.base_enums.specs.declared.SegLvl.the-variants.{AltQ}
 use Rattle.base_settings.specs.declared.quantization.QuantizationParams.{QuantizationParams}
 use Rattle.base_settings.specs.declared.segmentation.SegmentationParams.{SegmentationParams}
-use Rattle.base_enums.specs.Numbered.{pick}
+use Rattle.base_shared.specs.Choice.{pick}
 use Rattle.base_settings.specs.SegmentationParams.{featureActive, featureData}
 use Rattle.segment_clamp.specs.Clamp.{clampTo, changed}
 use Rattle.segment_tables.specs.Tables.{dcTable, acTable, entry}

@@ -7,7 +7,7 @@ use lib.IntN.{ℤ}
 use Rattle.base_enums.specs.declared.BitDepth.{BitDepth}
 use Rattle.base_types.specs.declared.header.Header.{Header}
 use Rattle.base_settings.specs.declared.quantization.QuantizationParams.{QuantizationParams}
-use Rattle.base_enums.specs.Numbered.{pick}
+use Rattle.base_shared.specs.Choice.{pick}
 use Rattle.segment_clamp.specs.Clamp.{clampTo, changed}
 use Rattle.segment_tables.specs.Tables.{dcTable, acTable}
 use Rattle.segment_grid.specs.Grid.{gridOf}
@@ -15,12 +15,12 @@ use Rattle.segment_levels.proofs.Frame.{same-levels}
 use Rattle.segment_quant.specs.Quant.{qindexOf, scalesAt}
 use Rattle.segment_features.specs.declared.Features.{Features}
 use Rattle.segment_records.specs.declared.Segmentation.{Segmentation}
-use Rattle.segment_records.specs.Each.{each}
+use Rattle.base_shared.specs.Lists.{each}
 use Rattle.segment_records.specs.Entries.{index, entriesOf}
 use Rattle.segment_features.specs.Features.{featuresOf}
 use Rattle.segment_records.specs.Once.{scalesFrom, levelsAfter, renewed, segmentAt}
 use Rattle.segment_records.specs.Segmentation.{segmentOf}
-use Rattle.segment_records.proofs.Each.{each-same}
+use Rattle.base_shared.proofs.Each.{each-same}
 
 -- a feature that is not active leaves the frame's index
 same-scales : (dc ac : List ℤ) (q : QuantizationParams) (f : Features)

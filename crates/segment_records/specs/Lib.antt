@@ -1,4 +1,3 @@
 pub mod Entries
-pub mod Each
 pub mod Segmentation
 pub mod Once

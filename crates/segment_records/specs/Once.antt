@@ -5,7 +5,7 @@ use lib.IntN.{ℤ}
 use Rattle.base_settings.specs.declared.loop_filter.LoopFilterParams.{LoopFilterParams}
 use Rattle.base_settings.specs.declared.quantization.QuantizationParams.{QuantizationParams}
 use Rattle.base_settings.specs.declared.segmentation.SegmentationParams.{SegmentationParams}
-use Rattle.base_enums.specs.Numbered.{pick}
+use Rattle.base_shared.specs.Choice.{pick}
 use Rattle.segment_clamp.specs.Clamp.{clampTo, changed}
 use Rattle.segment_grid.specs.Grid.{gridOf, rowOf}
 use Rattle.segment_levels.specs.Once.{frameLevels, levelsFrom}

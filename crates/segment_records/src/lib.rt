@@ -1,6 +1,6 @@
 // The eight segment records of a frame: the filter's levels, and the scales and entries of each segment.
 ghost use mathlib.Core.Path.{_≡_};
-ghost use Rattle.segment_records.specs.Each.{each};
+ghost use Rattle.base_shared.specs.Lists.{each};
 ghost use Rattle.segment_records.specs.Segmentation.{defaultSegment, segmentWith, segmentOf};
 ghost use Rattle.segment_records.specs.Once.{levelsAfter, renewed, segmentAt};
 

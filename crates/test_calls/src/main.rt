@@ -18,11 +18,11 @@ use base_enums::TryFrameType;
 use base_enums::TryInterpolationFilter;
 use base_enums::TryProfile;
 use base_enums::TryReferenceFrameType;
+use base_little::Little;
 use ivf_file::Record;
 use ivf_file::RecordRead;
 use libc::STDIN_FILENO;
 use libc::STDOUT_FILENO;
-use part_coded::Little;
 
 fn text(s: &[u8]) {
     io::write_all(STDOUT_FILENO, s);
@@ -112,7 +112,7 @@ fn try_colors(n: u32) {
 // What is asked.
 
 fn number_at(s: &[u8], at: usize) -> u64 {
-    let Little::Value(n) = part_coded::read_little(s, at, 8) else {
+    let Little::Value(n) = base_little::read_little(s, at, 8) else {
         return 0;
     };
     n
@@ -217,7 +217,7 @@ fn read_record(buf: &mut [u8]) -> usize {
     if got < 4 {
         return 0;
     }
-    let Little::Value(n) = part_coded::read_little(&size, 0, 4) else {
+    let Little::Value(n) = base_little::read_little(&size, 0, 4) else {
         return 0;
     };
     if read_data(buf, n as usize) {

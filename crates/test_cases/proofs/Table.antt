@@ -7,11 +7,11 @@ use Rattle.base_bits.specs.Reader as Reader
 use Rattle.base_slots.specs.Slots as Slots
 use Rattle.grammar_tables.specs.Tables as Tables
 use Rattle.grammar_tables.specs.Header as Header
-use Rattle.grammar_tables.specs.Settings as Settings
-use Rattle.grammar_tables.specs.Record as Record
+use Rattle.grammar_settings.specs.Settings as Settings
+use Rattle.grammar_record.specs.Record as Record
 use Rattle.grammar_tables.specs.Reading as Reading
 use Rattle.header_parser.specs.Answer as Answer
-use Rattle.part_coded.specs.Little as Little
+use Rattle.base_little.specs.Little as Little
 use Rattle.chunk_index.specs.Layout as Layout
 use Rattle.chunk_index.specs.Split as Split
 use Rattle.chunk_parser.specs.Frames as Frames
@@ -24,9 +24,9 @@ use Rattle.test_cases.specs.Table.{framesFrom, table, AllHold}
 pub all-hold : AllHold table
 unfolding
     Bit.spell Bit.bitsOf Bit.bitAt Bit.reach Bit.Stands Bit.number Bit.fits Bit.missing Many.manyFields Reader.field
-    Reader.must Reader.groupIf Reader.fieldIf Tables.colorFields Tables.sizeFields Tables.renderFields Tables.refFields Tables.refsFields Tables.foundFields Tables.foundAt Tables.deltaFields Tables.loopFilterFields Tables.quantizerFields Tables.probFields Tables.probsFields Tables.featureFields Tables.featuresFields Tables.segmentationFields Tables.runFields Tables.first Tables.least Tables.most Tables.tilesFields Header.sizeOf Header.frameFields Header.headerFields Settings.deltaValue Settings.loopFilterOf Settings.quantizerOf Settings.lossless Settings.segmentationOf Record.frameOf Record.headerOf Record.stateFrom Record.stateAfter Reading.readColor Reading.readSize Reading.readRender Reading.readRef Reading.readRefs Reading.readFound Reading.readDelta Reading.readLoopFilter Reading.readQuantizer Reading.readSegmentation Reading.readRun Reading.readTiles Reading.readSync Reading.readFrame Reading.readHeader Slots.each Answer.parsed
+    Reader.must Reader.groupIf Reader.fieldIf Tables.colorFields Tables.sizeFields Tables.renderFields Tables.refFields Tables.refsFields Tables.foundFields Tables.foundAt Tables.deltaFields Tables.loopFilterFields Tables.quantizerFields Tables.probFields Tables.probsFields Tables.featureFields Tables.featuresFields Tables.segmentationFields Tables.runFields Lists.first Tables.least Tables.most Tables.tilesFields Header.sizeOf Header.frameFields Header.headerFields Settings.deltaValue Settings.loopFilterOf Settings.quantizerOf Settings.lossless Settings.segmentationOf Record.frameOf Record.headerOf Record.stateFrom Record.stateAfter Reading.readColor Reading.readSize Reading.readRender Reading.readRef Reading.readRefs Reading.readFound Reading.readDelta Reading.readLoopFilter Reading.readQuantizer Reading.readSegmentation Reading.readRun Reading.readTiles Reading.readSync Reading.readFrame Reading.readHeader Lists.each Answer.parsed
     Little.little Layout.announced Layout.cut Layout.indexed Layout.layoutOf Layout.start
-    Split.filled Split.first Split.firstPast Split.placed Split.splitOf Frames.stateBefore Frames.frameRead
+    Split.filled Split.firstPast Split.placed Split.splitOf Frames.stateBefore Frames.frameRead
     Frames.firstFault Chunk.chunkOf Features.featuresOf Features.featuresIn Levels.levelsOf Levels.levelsAt
-    Levels.deltaGrid Levels.pairOf Levels.segmentLevel Levels.moved Levels.scaled Clamp.clampTo framesFrom
+    Levels.deltaGrid Levels.pairOf Levels.segmentLevel Levels.levelMoved Levels.scaled Clamp.clampTo framesFrom
 all-hold = (refl, (refl, (refl, (refl, (refl, (refl, (refl, (refl, (refl, ((refl, refl), ((refl, refl), ((refl, refl), ((refl, refl), ((refl, refl, refl), ((refl, refl, refl), tt)))))))))))))))

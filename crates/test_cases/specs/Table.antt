@@ -68,11 +68,11 @@ framesOf r (answer.Header j e) = []
 abbrev pub saidOf : ChunkRead → Said
 saidOf r = record { number = chunkNumber (r .answer); frame = chunkFrame (r .answer); frames = framesOf r (r .answer) }
 
-abbrev pub accepted : List Frame → Said
-accepted fs = record { number = 0; frame = 0; frames = fs }
+abbrev pub saysFrames : List Frame → Said
+saysFrames fs = record { number = 0; frame = 0; frames = fs }
 
-abbrev pub refused : ℕ → Said
-refused n = record { number = n; frame = 0; frames = [] }
+abbrev pub saysRefused : ℕ → Said
+saysRefused n = record { number = n; frame = 0; frames = [] }
 
 -- a frame's filter at a level, with the deltas that a reset leaves
 abbrev pub resetAt : ℕ → LoopFilterParams
@@ -133,15 +133,15 @@ shown = record { at = 14; size = 1; kind = KeyFrame; width = 0; height = 0; base
 
 abbrev pub table : List Case
 table =
-    chunk k freshState (accepted (kFrame ∷ []))
-    ∷ chunk k13 freshState (refused 6)
-    ∷ chunk i afterK (accepted (iFrame 64 ∷ []))
-    ∷ chunk i freshState (accepted (iFrame 0 ∷ []))
-    ∷ chunk f freshState (accepted (kFrame ∷ shown ∷ []))
-    ∷ chunk (0xC1 ∷ []) freshState (refused 2)
-    ∷ chunk (0xC0 ∷ 0x01 ∷ 0xC0 ∷ []) freshState (refused 3)
-    ∷ chunk (0xC0 ∷ 0x00 ∷ 0xC0 ∷ []) freshState (refused 6)
-    ∷ chunk (0x00 ∷ 0x00 ∷ 0xC0 ∷ []) freshState (refused 4)
+    chunk k freshState (saysFrames (kFrame ∷ []))
+    ∷ chunk k13 freshState (saysRefused 6)
+    ∷ chunk i afterK (saysFrames (iFrame 64 ∷ []))
+    ∷ chunk i freshState (saysFrames (iFrame 0 ∷ []))
+    ∷ chunk f freshState (saysFrames (kFrame ∷ shown ∷ []))
+    ∷ chunk (0xC1 ∷ []) freshState (saysRefused 2)
+    ∷ chunk (0xC0 ∷ 0x01 ∷ 0xC0 ∷ []) freshState (saysRefused 3)
+    ∷ chunk (0xC0 ∷ 0x00 ∷ 0xC0 ∷ []) freshState (saysRefused 6)
+    ∷ chunk (0x00 ∷ 0x00 ∷ 0xC0 ∷ []) freshState (saysRefused 4)
     ∷ columns 448 0 0
     ∷ columns 449 0 1
     ∷ columns 4096 0 4

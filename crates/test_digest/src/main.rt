@@ -6,6 +6,7 @@ ghost use lib.ListN.{length};
 use base_enums::BitDepth;
 use base_enums::ColorRange;
 use base_enums::ColorSpace;
+use base_little::Little;
 use base_settings::FrameSize;
 use base_settings::LoopFilterParams;
 use base_settings::QuantizationParams;
@@ -17,7 +18,6 @@ use chunk_answer::Answer;
 use chunk_answer::ChunkRead;
 use libc::STDIN_FILENO;
 use libc::STDOUT_FILENO;
-use part_coded::Little;
 use segment_records::Segmentation;
 
 // A digest takes in numbers one after the other; each function answers the digest that has taken in its value too.
@@ -511,7 +511,7 @@ fn signed_short_at(s: &[u8], at: usize) -> i16 {
 }
 
 fn number_at(s: &[u8], at: usize) -> u32 {
-    let Little::Value(n) = part_coded::read_little(s, at, 4) else {
+    let Little::Value(n) = base_little::read_little(s, at, 4) else {
         return 0;
     };
     (n % 4294967296) as u32
@@ -641,7 +641,7 @@ const LONGEST_CHUNK: usize = 65536;
 
 // A chunk at a place, with its length at another.
 fn chunk_at(s: &[u8], length_at: usize, at: usize, work: Work) -> Record {
-    let Little::Value(n) = part_coded::read_little(s, length_at, 4) else {
+    let Little::Value(n) = base_little::read_little(s, length_at, 4) else {
         return Record::End;
     };
     let size = n as usize;
@@ -655,14 +655,14 @@ fn chunk_at(s: &[u8], length_at: usize, at: usize, work: Work) -> Record {
 }
 
 fn parses_at(s: &[u8]) -> Record {
-    let Little::Value(n) = part_coded::read_little(s, 1, 4) else {
+    let Little::Value(n) = base_little::read_little(s, 1, 4) else {
         return Record::End;
     };
     chunk_at(s, 5, 9, Work::Parses(n))
 }
 
 fn steps_at(s: &[u8]) -> Record {
-    let Little::Value(n) = part_coded::read_little(s, 1, 4) else {
+    let Little::Value(n) = base_little::read_little(s, 1, 4) else {
         return Record::End;
     };
     chunk_at(s, 5, 9, Work::Steps(n))

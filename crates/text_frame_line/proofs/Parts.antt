@@ -12,11 +12,11 @@ use Rattle.text_numeral.proofs.Digits.{length-numeral}
 use Rattle.text_line.specs.Line.{line}
 use Rattle.text_frame_line.specs.declared.Kind.{Kind}
 use Rattle.text_frame_line.specs.declared.Kind.the-variants.{Key, Intra, Inter, Show}
-use Rattle.text_frame_line.specs.Frame.{kindWord, kindOf, frameLine}
+use Rattle.text_frame_line.specs.Frame.{kindWord, frameKind, frameLine}
 
 module _ (chunk frame at size : ℕ) (h : Header) where
   pub frame-parts :
-      ((numeral chunk ++ ascii " ") ++ ((numeral frame ++ ascii " ") ++ (kindWord (kindOf h) ++ ascii " ")))
+      ((numeral chunk ++ ascii " ") ++ ((numeral frame ++ ascii " ") ++ (kindWord (frameKind h) ++ ascii " ")))
       ++ (((numeral at ++ ascii " ") ++ ((numeral size ++ ascii " ") ++ ((numeral (h .width) ++ ascii " ") ++ (numeral (h .height) ++ ascii " "))))
       ++ ((numeral (h .«refresh_frame_flags») ++ ascii " ") ++ (numeral (h .«uncompressed_header_size_in_bytes») ++ ascii "\n")))
       ≡ frameLine chunk frame at size h
@@ -37,7 +37,7 @@ frame-short chunk frame at size h =
       arith,
       length-numeral chunk,
       length-numeral frame,
-      kind-short (kindOf h),
+      kind-short (frameKind h),
       length-numeral at,
       length-numeral size,
       length-numeral (h .width),

@@ -3,7 +3,7 @@
 use Prim.Native.Nat.{ℕ}
 use mathlib.Core.Bool.{Bool}
 use mathlib.Core.List.{List, [], _∷_}
-use Rattle.base_bits.specs.Syntax.{pick}
+use Rattle.base_shared.specs.Choice.{pick}
 use Rattle.base_enums.specs.declared.FrameType.{FrameType}
 use Rattle.base_enums.specs.declared.FrameType.the-variants.{KeyFrame, InterFrame}
 use Rattle.base_types.specs.declared.header.Header.{Header}
@@ -17,8 +17,8 @@ abbrev pub kindBy : FrameType → Bool → Kind
 kindBy KeyFrame intra-only = Key
 kindBy InterFrame intra-only = pick intra-only Intra Inter
 
-abbrev pub kindOf : Header → Kind
-kindOf h = pick (h .«show_existing_frame») Show (kindBy (h .«frame_type») (h .«intra_only»))
+abbrev pub frameKind : Header → Kind
+frameKind h = pick (h .«show_existing_frame») Show (kindBy (h .«frame_type») (h .«intra_only»))
 
 abbrev pub kindWord : Kind → List ℕ
 kindWord Key = ascii "key"
@@ -31,7 +31,7 @@ frameLine chunk frame at size h =
     line
     (numeral chunk ∷
     numeral frame ∷
-    kindWord (kindOf h) ∷
+    kindWord (frameKind h) ∷
     numeral at ∷
     numeral size ∷
     numeral (h .width) ∷

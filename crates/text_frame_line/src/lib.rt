@@ -5,7 +5,7 @@ ghost use Rattle.text_numeral.specs.Ascii.{ascii};
 ghost use Rattle.text_numeral.specs.Numeral.{numeral};
 ghost use Rattle.text_numeral.specs.Put.{Written};
 ghost use Rattle.text_line.specs.Line.{Line};
-ghost use Rattle.text_frame_line.specs.Frame.{kindOf, kindWord, frameLine};
+ghost use Rattle.text_frame_line.specs.Frame.{frameKind, kindWord, frameLine};
 use base_enums::FrameType;
 use base_types::Header;
 
@@ -19,7 +19,7 @@ pub enum Kind {
 impl Kind {
     // What a frame's header says that it is.
     fn of(header: Header) -> Kind
-        ensures { λ r. ⌜ r ≡ kindOf header ⌝ }
+        ensures { λ r. ⌜ r ≡ frameKind header ⌝ }
     {
         if header.show_existing_frame {
             return Kind::Show;

@@ -6,7 +6,7 @@ use mathlib.Core.Bool.{Bool}
 use mathlib.Core.List.{List, [], _∷_, _++_}
 use lib.Dec.{leb}
 use lib.ListN.{length, take, drop}
-use Rattle.base_bits.specs.Syntax.{pick}
+use Rattle.base_shared.specs.Choice.{pick}
 use Rattle.text_numeral.specs.Ascii.{ascii}
 
 -- words with a space between them, and the line's end

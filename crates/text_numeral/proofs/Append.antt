@@ -12,13 +12,7 @@ use lib.Seq.{paste, paste-zero, length-paste, take-paste, drop-paste, drop-drop,
 use lib.Dec.{ltb}
 use borrow.Author.Tests.{ltb-true, ltb-false}
 use Rattle.text_numeral.specs.Put.{fitting, putInto, placeAfter, Written}
-
-below : (n m : ℕ) → (n ≤ m) ⊎ (m < n)
-below n m = go (ltb m n) refl
-  where
-    go : (b : Bool) → ltb m n ≡ b → (n ≤ m) ⊎ (m < n)
-    go true e = inr (ltb-true m n e)
-    go false e = inl (ltb-false m n e)
+use Rattle.base_shared.proofs.Order.{below}
 
 paste-join : (d a b : List ℕ) (at m : ℕ) → at + length a ≤ length d → paste (paste d at a (length a)) (at + length a) b m ≡ paste d at (a ++ b) (length a + m)
 paste-join d a b at m h =

@@ -8,6 +8,7 @@ use base_enums::BitDepth;
 use base_enums::ColorRange;
 use base_enums::ColorSpace;
 use base_enums::FrameType;
+use base_little::Little;
 use base_settings::FrameSize;
 use base_settings::LoopFilterParams;
 use base_settings::QuantizationParams;
@@ -19,7 +20,6 @@ use chunk_answer::ChunkRead;
 use ivf_file::FileRead;
 use libc::STDIN_FILENO;
 use libc::STDOUT_FILENO;
-use part_coded::Little;
 use segment_records::Segmentation;
 
 // Everything is printed by its form: the text, with marks in it. # stands for a number, ? for true or false, <a|b> for one of some words, and
@@ -627,7 +627,7 @@ fn read_chunk(buf: &mut [u8]) -> Record {
     if got < 4 {
         return Record::End;
     }
-    let Little::Value(n) = part_coded::read_little(&size, 0, 4) else {
+    let Little::Value(n) = base_little::read_little(&size, 0, 4) else {
         return Record::End;
     };
     if read_data(buf, n as usize) {
@@ -643,10 +643,10 @@ fn read_frame(buf: &mut [u8]) -> Record {
     if got < 16 {
         return Record::End;
     }
-    let Little::Value(offset) = part_coded::read_little(&place, 0, 8) else {
+    let Little::Value(offset) = base_little::read_little(&place, 0, 8) else {
         return Record::End;
     };
-    let Little::Value(size) = part_coded::read_little(&place, 8, 8) else {
+    let Little::Value(size) = base_little::read_little(&place, 8, 8) else {
         return Record::End;
     };
     let chunk = read_chunk(buf);

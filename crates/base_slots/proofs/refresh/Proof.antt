@@ -3,8 +3,9 @@ use mathlib.Core.Path.{_≡_, refl, sym, _∙_}
 use Prim.Native.Nat.{_-_, _<_, _≤_}
 use native.Mathlib.Omega.{arith}
 use lib.ListN.{length, length-set}
-use Rattle.base_slots.specs.Slots.{each, slotAfter}
-use Rattle.base_slots.proofs.Each.{done, each-step, each-end, length-mapped}
+use Rattle.base_shared.specs.Lists.{each}
+use Rattle.base_slots.specs.Slots.{slotAfter}
+use Rattle.base_shared.proofs.Each.{done, each-step, each-end, length-mapped}
 use Rattle.base_slots.proofs.refresh.Statement.{statement}
 use Rattle.base_slots.proofs.refresh.Tie as tie
 

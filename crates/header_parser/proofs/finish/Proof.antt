@@ -18,8 +18,8 @@ refused-requires c κs = search needs
 returns : tie.Need-returns
 returns c = search finish-short
 
-frame-header-requires : tie.Need-frame-header-requires
-frame-header-requires c κs = search needs
+frame-record-requires : tie.Need-frame-header-requires
+frame-record-requires c κs = search needs
 
 frame-state-requires : tie.Need-frame-state-requires
 frame-state-requires c κs = search needs
@@ -36,6 +36,6 @@ finish-spec =
     enum-told
     refused-requires
     returns
-    frame-header-requires
+    frame-record-requires
     frame-state-requires
     returns-2)

@@ -1,5 +1,5 @@
 use borrow.Author.Needs.{needs}
-use Rattle.ivf_file.specs.File.{headerOf}
+use Rattle.ivf_file.specs.File.{fileHeaderOf}
 use Rattle.ivf_file.proofs.header_fields.Statement.{statement}
 use Rattle.ivf_file.proofs.header_fields.Tie as tie
 
@@ -34,7 +34,7 @@ cast-t11 : tie.Need-cast-t11
 cast-t11 c = search needs
 
 returns : tie.Need-returns
-returns c = unfold headerOf in rw (c .before .before .before .before .number-at .ensures .0, c .before .before .before .number-at2 .ensures .0, c .before .before .number-at3 .ensures .0, c .before .number-at4 .ensures .0, c .number-at5 .ensures .0)
+returns c = unfold fileHeaderOf in rw (c .before .before .before .before .number-at .ensures .0, c .before .before .before .number-at2 .ensures .0, c .before .before .number-at3 .ensures .0, c .before .number-at4 .ensures .0, c .number-at5 .ensures .0)
 
 pub header-fields-spec : {M : Type 1} → statement M
 header-fields-spec =

@@ -1,5 +1,5 @@
 use borrow.Author.Needs.{needs}
-use Rattle.grammar_tables.specs.Settings.{lossless}
+use Rattle.grammar_settings.specs.Settings.{lossless}
 use Rattle.part_quantization.proofs.Records.{zeros}
 use Rattle.part_quantization.proofs.is_lossless.Statement.{statement}
 use Rattle.part_quantization.proofs.is_lossless.Tie as tie

@@ -4,10 +4,10 @@ use Prim.Native.Nat.{_-_, _<_, _≤_}
 use native.Mathlib.Omega.{arith}
 use borrow.Author.Needs.{needs}
 use lib.ListN.{length, length-set}
-use Rattle.segment_records.specs.Each.{each}
+use Rattle.base_shared.specs.Lists.{each}
 use Rattle.segment_features.specs.Features.{featuresOf}
 use Rattle.segment_records.specs.Once.{segmentAt}
-use Rattle.segment_records.proofs.Each.{length-mapped, done, each-step, each-end}
+use Rattle.base_shared.proofs.Each.{done, each-step, each-end, length-mapped}
 use Rattle.segment_records.proofs.renew_all.Statement.{statement}
 use Rattle.segment_records.proofs.renew_all.Tie as tie
 

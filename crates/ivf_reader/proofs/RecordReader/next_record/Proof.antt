@@ -54,7 +54,7 @@ use Rattle.ivf_file.proofs.read_record as read-record
 use Rattle.ivf_file.proofs.read_record.Symbol as read-record-def
 use Rattle.ivf_file.proofs.read_record.Symbol.{name as #ivf·read-record}
 use Rattle.ivf_file.proofs.read_record.Met as read-record-thm
-use Rattle.ivf_reader.specs.Reader.{placeAfter, movedOn}
+use Rattle.ivf_reader.specs.Reader.{readerPlaceAfter, movedOn}
 use Rattle.ivf_reader.specs.declared.RecordReader.{RecordReader}
 use Rattle.ivf_reader.proofs.RecordReader as T
 use Rattle.ivf_reader.proofs.RecordReader.Laws as T′
@@ -156,14 +156,14 @@ module _ {M : Type 1} (𝓤 : URA M) (H : Heap 𝓤) (A : Atoms 𝓤) (W : Given
       qed W (‵ (S.the-row .own r (u ∷ [])) ∷ []) ∵ nothing ! $ owned ! usize (Is usize) (uint-makes 𝓤 H A W w64) (h .place) _ (refl, fits) $ fjoin ! $ move ! (1 ∷ 0 ∷ []) $ fjoin ! $
       nothing ! $ join ! $ frame ! $ done !
 
-  place-said : (r : RecordRead) (n : ℕ) → ent 𝓤 (ensured 𝓤 H A place-after.ended (place-after.clauses 𝓤 H A at-mem run) tt (r, (h .place, tt)) tt n) (fact 𝓤 (n ≡ placeAfter r (h .place)))
-  place-said r n = exE 𝓤 _ (λ ws. snd∗ 𝓤 (sem 𝓤 H A (lasts place-after.ended tt (r, (h .place, tt)) ws)) (fact 𝓤 (n ≡ placeAfter r (h .place))))
+  place-said : (r : RecordRead) (n : ℕ) → ent 𝓤 (ensured 𝓤 H A place-after.ended (place-after.clauses 𝓤 H A at-mem run) tt (r, (h .place, tt)) tt n) (fact 𝓤 (n ≡ readerPlaceAfter r (h .place)))
+  place-said r n = exE 𝓤 _ (λ ws. snd∗ 𝓤 (sem 𝓤 H A (lasts place-after.ended tt (r, (h .place, tt)) ws)) (fact 𝓤 (n ≡ readerPlaceAfter r (h .place))))
 
-  exits : (r : RecordRead) (u : Val) (n : ℕ) → r ≡ found → n ≡ placeAfter r (h .place) → ent 𝓤 (⋆ 𝓤 H A (‵ (fobs γ (R .coded .code (placed n))) ∷ ‵ (fbor κ (Body (mem R) b o γ)) ∷ ‵ (flft κ q) ∷ (‵ (flft κ′ q′) ⊛ ‵ ftrue) ∷ ‵ (S.the-row .own r (u ∷ [])) ∷ [])) (Post u)
+  exits : (r : RecordRead) (u : Val) (n : ℕ) → r ≡ found → n ≡ readerPlaceAfter r (h .place) → ent 𝓤 (⋆ 𝓤 H A (‵ (fobs γ (R .coded .code (placed n))) ∷ ‵ (fbor κ (Body (mem R) b o γ)) ∷ ‵ (flft κ q) ∷ (‵ (flft κ′ q′) ⊛ ‵ ftrue) ∷ ‵ (S.the-row .own r (u ∷ [])) ∷ [])) (Post u)
   exits r u n e p =
       qed W (‵ (fobs γ (R .coded .code (placed n))) ∷ ‵ (fbor κ (Body (mem R) b o γ)) ∷ ‵ (flft κ q) ∷ (‵ (flft κ′ q′) ⊛ ‵ ftrue) ∷ ‵ (S.the-row .own r (u ∷ [])) ∷ []) ∵
       suffices ! _ (ends-at 𝓤 H A next-record.ended stayed (next-record.clauses 𝓤 H A at-mem run) W (((κ, (κ′, tt)), (q, (q′, tt)), bounds, a, vals), tt) u r (placed n, tt) (tt, tt)) $
-      says ! (e, ap placed (p ∙ ap (λ (t : RecordRead). placeAfter t (h .place)) e)) $
+      says ! (e, ap placed (p ∙ ap (λ (t : RecordRead). readerPlaceAfter t (h .place)) e)) $
       move ! (2 ∷ 3 ∷ []) $ join ! $ frame ! $ feqI ! (List Val) (vptr b o ∷ []) (vptr b o ∷ []) refl $ fjoin3 ! $ nothing ! $ move ! (1 ∷ 0 ∷ []) $ fjoin ! $ done !
 
   module _ (C : Calls 𝓤 H) (Λ : Loops 𝓤 H) (fm : FmC 𝓤 H (W .laws) C) (known-read : Triple 𝓤 (C #ivf·read-record) (ReadRecord 𝓤 H A at-mem run)) (known-place : Triple 𝓤 (C #recording·place-after) (PlaceAfter 𝓤 H A at-mem run)) where
@@ -193,7 +193,7 @@ module _ {M : Type 1} (𝓤 : URA M) (H : Heap 𝓤) (A : Atoms 𝓤) (W : Given
         use1 W (raw (PlaceAfter 𝓤 H A at-mem run .pre (to-place r u))) (goes-place (place-fits g) r u) $
         calls-at ! fm (PlaceAfter 𝓤 H A at-mem run) known-place (to-place r u) (and-then ! (load ! (from ! (stop !)) (look ! 13 refl)) (and-then ! (load ! (from ! (stop !)) (look ! 15 refl)) (no-more !))) (λ w.
         use1 W (later (some (λ (n : ℕ). (‵ ftrue ⊛ ‵ (usize .own n (w ∷ []))) ⊛ raw (ensured 𝓤 H A place-after.ended (place-after.clauses 𝓤 H A at-mem run) tt (r, (h .place, tt)) tt n)))) (id⊢ 𝓤 _) $ await ! tt $ pick ! (λ n.
-        split ! $ move ! (1 ∷ []) $ use1 W (raw (fact 𝓤 (n ≡ placeAfter r (h .place)))) (place-said r n) $ heard ! (n ≡ placeAfter r (h .place)) (λ p. split ! $ move ! (1 ∷ []) $
+        split ! $ move ! (1 ∷ []) $ use1 W (raw (fact 𝓤 (n ≡ readerPlaceAfter r (h .place)))) (place-said r n) $ heard ! (n ≡ readerPlaceAfter r (h .place)) (λ p. split ! $ move ! (1 ∷ []) $
         -- [the new place; …; the answer; 'a's token; what the reader owns; its cell; the open borrow; obs; auth; …; _5; …; room for _4; …; _3; …; _2; …; _1; …; room for _0; …]
         peeks ! usize (Is usize) (shows 𝓤 H A usize) n (w ∷ []) (λ at.
         land ! (from ! (stop !)) (init ! 12 refl (uint-lawful 𝓤 H A W w64 .typed n _ at .0)) $ rewrite ! 12 (λ (x : Val). ‵ (fat fullShare (tyInt w64) l₄ 0 x)) (ap only (at .0)) refl $

@@ -1,4 +1,5 @@
 -- A loop that replaces each element in turn, for any type of element.
+-- Assumes nothing.
 use mathlib.Core.Path.{_≡_, refl, sym, ap, _∙_}
 use mathlib.Core.List.{List, [], _∷_, _++_, append-nil, map}
 use Prim.Native.Nat.{ℕ, zero, suc, _+_, _<_, _≤_}
@@ -6,7 +7,7 @@ use native.Mathlib.Numerals.{add-one}
 use native.Mathlib.Omega.{arith}
 use lib.ListN.{length, take, drop, set, getD, drop-of-length-le, length-map}
 use lib.Seq.{take-suc-set, append-snoc, take-all, drop-cons, drop-set-lt}
-use Rattle.segment_records.specs.Each.{each}
+use Rattle.base_shared.specs.Lists.{each}
 
 -- owning an array of structs tells the length of the list of their encodings
 pub length-mapped : (X Y : Type 0) (f : X → Y) (l : List X) (n : ℕ) → length (map f l) ≡ n → length l ≡ n

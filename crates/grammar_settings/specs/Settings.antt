@@ -7,12 +7,13 @@ use mathlib.Core.List.{List, [], _∷_, _++_}
 use lib.Dec.{eqb}
 use lib.IntN.{ℤ, pos, negsuc, negℤ, natAbs}
 use lib.ListN.{getD, replicate}
-use Rattle.base_bits.specs.Syntax.{flag, pick}
+use Rattle.base_shared.specs.Choice.{pick}
+use Rattle.base_bits.specs.Syntax.{flag}
 use Rattle.base_bits.specs.Many.{Times, eachOf}
 use Rattle.base_settings.specs.declared.loop_filter.LoopFilterParams.{LoopFilterParams}
 use Rattle.base_settings.specs.declared.quantization.QuantizationParams.{QuantizationParams}
 use Rattle.base_settings.specs.declared.segmentation.SegmentationParams.{SegmentationParams}
 use Rattle.grammar_tables.specs.Tables.{DeltaValues, LoopFilterValues, QuantizerValues, ProbValues, FeatureValues, SegmentationValues}
 
 -- the number of a magnitude and a sign, 0 being 0 with either sign
 abbrev pub signed : ℕ → Bool → ℤ
@@ -72,9 +73,9 @@ abbrev pub dataValue : FeatureValues → ℤ
 dataValue v = signed (v .feature-value) (flag (v .feature-sign))
 
 -- what f makes of each feature, segment after segment in one row
-abbrev pub rowOf : {B : Type 0} → (FeatureValues → B) → (n : ℕ) → Times n (Times 4 FeatureValues) → List B
-rowOf f zero v = []
-rowOf f (suc n) v = eachOf f 4 (v .0) ++ rowOf f n (v .1)
+abbrev pub featureRow : {B : Type 0} → (FeatureValues → B) → (n : ℕ) → Times n (Times 4 FeatureValues) → List B
+featureRow f zero v = []
+featureRow f (suc n) v = eachOf f 4 (v .0) ++ featureRow f n (v .1)
 
 -- an update of the map sets every probability, and one of the data every feature
 unfoldable pub segmentationOf : Bool → SegmentationParams → SegmentationValues → SegmentationParams
@@ -89,6 +90,6 @@ segmentationOf independent old v =
       «temporal_update» = pick mapped (flag (v .temporal-update)) (old .«temporal_update»);
       «update_data» = updated;
       «abs_or_delta_update» = pick updated (flag (v .abs-or-delta-update)) (pick independent false (old .«abs_or_delta_update»));
-      «feature_enabled» = pick updated (rowOf enabledOf 8 (v .features)) (pick independent (replicate 32 false) (old .«feature_enabled»));
-      «feature_data» = pick updated (rowOf dataValue 8 (v .features)) (pick independent (replicate 32 (pos 0)) (old .«feature_data»));
+      «feature_enabled» = pick updated (featureRow enabledOf 8 (v .features)) (pick independent (replicate 32 false) (old .«feature_enabled»));
+      «feature_data» = pick updated (featureRow dataValue 8 (v .features)) (pick independent (replicate 32 (pos 0)) (old .«feature_data»));
     }

@@ -1,8 +1,8 @@
 use native.Mathlib.Omega.{arith}
-use Rattle.part_coded.proofs.Bytes.{little-wide, little-nothing, little-short, little-value}
+use Rattle.base_little.proofs.Bytes.{little-wide, little-nothing, little-short, little-value}
 use borrow.Author.Needs.{needs}
-use Rattle.part_coded.proofs.read_little.Statement.{statement}
-use Rattle.part_coded.proofs.read_little.Tie as tie
+use Rattle.base_little.proofs.read_little.Statement.{statement}
+use Rattle.base_little.proofs.read_little.Tie as tie
 
 returns : tie.Need-returns
 returns c = little-wide _ _ _ (omega arith)

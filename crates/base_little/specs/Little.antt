@@ -5,9 +5,9 @@ use mathlib.Core.Bool.{Bool, true}
 use mathlib.Core.List.{List}
 use lib.Dec.{leb, ltb}
 use lib.ListN.{length, getD}
-use Rattle.base_bits.specs.Syntax.{pick}
-use Rattle.part_coded.specs.declared.Little.{Little}
-use Rattle.part_coded.specs.declared.Little.the-variants.{Value, Short, TooWide}
+use Rattle.base_shared.specs.Choice.{pick}
+use Rattle.base_little.specs.declared.Little.{Little}
+use Rattle.base_little.specs.declared.Little.the-variants.{Value, Short, TooWide}
 
 -- the number of the n bytes from `at` on
 unfoldable pub little : List ℕ → ℕ → ℕ → ℕ

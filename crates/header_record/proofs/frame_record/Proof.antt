@@ -1,7 +1,7 @@
-use Rattle.header_record.specs.Record.{frameHeader}
+use Rattle.header_record.specs.Record.{frameRecord}
 use borrow.Author.Needs.{needs}
-use Rattle.header_record.proofs.frame_header.Statement.{statement}
-use Rattle.header_record.proofs.frame_header.Tie as tie
+use Rattle.header_record.proofs.frame_record.Statement.{statement}
+use Rattle.header_record.proofs.frame_record.Tie as tie
 
 of-two-bits-requires : tie.Need-of-two-bits-requires
 of-two-bits-requires c κs = search needs
@@ -19,11 +19,11 @@ header-bytes-requires : tie.Need-header-bytes-requires
 header-bytes-requires c κs = search needs
 
 returns : tie.Need-returns
-unfolding frameHeader
+unfolding frameRecord
 returns c = rw (c .before .before .before .before .of-two-bits .ensures, c .before .before .before .frame-type .ensures, c .before .before .sign-biases .ensures, c .before .is-lossless .ensures, c .header-bytes .ensures)
 
-pub frame-header-spec : {M : Type 1} → statement M
-frame-header-spec =
+pub frame-record-spec : {M : Type 1} → statement M
+frame-record-spec =
     tie.close
     (tie.spec
     of-two-bits-requires

@@ -5,43 +5,27 @@ use mathlib.Core.Bool.{Bool, true, false, _&&_, _||_}
 use mathlib.Core.List.{List, [], _∷_}
 use lib.Dec.{eqb}
 use lib.ListN.{length, replicate}
-use Rattle.base_bits.specs.Syntax.{flag, pick, flat}
+use Rattle.base_shared.specs.Choice.{pick}
+use Rattle.base_bits.specs.Syntax.{flag, flat}
 use Rattle.base_enums.specs.Profile.{profileOf}
 use Rattle.base_enums.specs.ColorSpace.{colorSpaceOf}
-use Rattle.base_enums.specs.ColorRange.{colorRangeOf}
-use Rattle.base_enums.specs.InterpolationFilter.{filterOfLiteral}
-use Rattle.base_enums.specs.declared.BitDepth.{BitDepth}
-use Rattle.base_enums.specs.declared.BitDepth.the-variants.{Depth8, Depth10, Depth12}
-use Rattle.base_enums.specs.declared.ColorRange.{ColorRange}
-use Rattle.base_enums.specs.declared.ColorRange.the-variants.{StudioSwing, FullSwing}
+use Rattle.base_enums.specs.declared.BitDepth.the-variants.{Depth8}
+use Rattle.base_enums.specs.declared.ColorRange.the-variants.{StudioSwing}
 use Rattle.base_enums.specs.declared.ColorSpace.the-variants.{Bt601}
 use Rattle.base_enums.specs.declared.FrameType.the-variants.{KeyFrame, InterFrame}
-use Rattle.base_enums.specs.declared.InterpolationFilter.{InterpolationFilter}
-use Rattle.base_enums.specs.declared.InterpolationFilter.the-variants.{EightTap, Switchable}
+use Rattle.base_enums.specs.declared.InterpolationFilter.the-variants.{EightTap}
 use Rattle.base_types.specs.Header.{showingHeader}
 use Rattle.base_types.specs.declared.header.Header.{Header}
 use Rattle.base_types.specs.declared.state.ReaderState.{ReaderState}
 use Rattle.base_slots.specs.Slots.{refreshed}
-use Rattle.grammar_tables.specs.Tables.{deep, sampled, srgb, RefValues, RefsValues, superblocks, least}
-use Rattle.grammar_tables.specs.Header.{FrameValues, isKey, isIntra, isColored, sizeOf, frameSize, HeaderValues, profileNumber, showsExisting, headerFields}
-use Rattle.grammar_tables.specs.Settings.{loopFilterOf, quantizerOf, lossless, segmentationOf}
-
--- color_config()'s depth, range and subsampling: RGB is full range and not subsampled; profiles 0 and 2 are else 4:2:0
-abbrev pub depthOf : ℕ → ℕ → BitDepth
-depthOf profile bit = pick (deep profile) (pick (flag bit) Depth12 Depth10) Depth8
-
-abbrev pub rangeOf : ℕ → ℕ → ColorRange
-rangeOf space bit = pick (srgb space) FullSwing (colorRangeOf bit)
-
-abbrev pub subsampling : ℕ → ℕ → ℕ → Bool
-subsampling profile space bit = pick (srgb space) false (pick (sampled profile) (flag bit) true)
+use Rattle.grammar_tables.specs.Tables.{RefValues, RefsValues, superblocks, least}
+use Rattle.grammar_tables.specs.Header.{FrameValues, isKey, isIntra, isColored, sizeOf, frameSize, HeaderValues, headerProfile, showsExisting, headerFields}
+use Rattle.grammar_settings.specs.Settings.{loopFilterOf, quantizerOf, lossless, segmentationOf}
+use Rattle.grammar_settings.specs.Enums.{depthOf, rangeOf, subsampling, interpolationOf}
 
 -- of the colour: what is coded; what an intra-only frame of profile 0 has; what an inter frame keeps
 abbrev pub colored : {A : Type 0} → ℕ → FrameValues → A → A → A → A
 colored profile v coded fixed kept = pick (isColored profile v) coded (pick (isIntra v) fixed kept)
-
-abbrev pub interpolationOf : ℕ → ℕ → InterpolationFilter
-interpolationOf switchable raw = pick (flag switchable) Switchable (filterOfLiteral raw)
 
 -- what f makes of each of the three references
 abbrev pub eachRef : (RefValues → ℕ) → RefsValues → List ℕ
@@ -104,7 +88,7 @@ frameOf st profile v bytes =
 -- show-existing has the profile and the slot, and else the default header; a frame's length is its spelling's, in whole bytes
 unfoldable pub headerOf : ReaderState → HeaderValues → Header
 headerOf st v =
-    let profile = profileNumber v in
+    let profile = headerProfile v in
     pick (showsExisting v) (showingHeader (profileOf profile) (v .frame-to-show-map-idx))
     (frameOf st profile (v .frame) (lengthOf (length (flat (headerFields (st .«reference_frame_sz») v)))))
 
@@ -124,4 +108,4 @@ stateFrom st profile v h =
 
 -- show-existing changes nothing
 unfoldable pub stateAfter : ReaderState → HeaderValues → ReaderState
-stateAfter st v = pick (showsExisting v) st (stateFrom st (profileNumber v) (v .frame) (headerOf st v))
+stateAfter st v = pick (showsExisting v) st (stateFrom st (headerProfile v) (v .frame) (headerOf st v))

@@ -8,8 +8,8 @@ use native.Mathlib.Nat.{pow-le-pow-right, pow-succ'}
 use native.Mathlib.Omega.{arith}
 use lib.ListN.{length, getD}
 use borrow.Author.Tests.{le-leb, lt-leb, le-ltb, lt-ltb}
-use Rattle.part_coded.specs.declared.Little.the-variants.{Value, Short, TooWide}
-use Rattle.part_coded.specs.Little.{little, holds, readLittle}
+use Rattle.base_little.specs.declared.Little.the-variants.{Value, Short, TooWide}
+use Rattle.base_little.specs.Little.{little, holds, readLittle}
 
 -- one more byte in front
 pub little-more : (s : List ℕ) (at n k : ℕ) → 0 < k → k ≤ n → little s (at + (k - 1)) (n - (k - 1)) ≡ getD s (at + (k - 1)) 0 + 256 * little s (at + k) (n - k)

@@ -3,10 +3,10 @@ use mathlib.Core.Path.{_≡_, _∙_}
 use Prim.Native.Nat.{_+_, _-_, _^_, _<_, _≤_}
 use native.Mathlib.Nat.{add-zero, sub-zero}
 use native.Mathlib.Omega.{arith}
-use Rattle.part_coded.specs.Little.{little}
-use Rattle.part_coded.proofs.Bytes.{little-more, little-none, room-left, room-more, room-none}
-use Rattle.part_coded.proofs.gather.Statement.{statement}
-use Rattle.part_coded.proofs.gather.Tie as tie
+use Rattle.base_little.specs.Little.{little}
+use Rattle.base_little.proofs.Bytes.{little-more, little-none, room-left, room-more, room-none}
+use Rattle.base_little.proofs.gather.Statement.{statement}
+use Rattle.base_little.proofs.gather.Tie as tie
 
 abbrev Inv-loop : tie.InvT-loop
 Inv-loop s at n sum₀ k₀ sum k = (k ≤ n) × (sum < 256 ^ (n - k)) × (sum ≡ little s (at + k) (n - k))

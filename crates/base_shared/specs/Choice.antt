@@ -1,0 +1,12 @@
+-- One of two, by a test.
+-- Assumes nothing.
+use mathlib.Core.Bool.{Bool, true, false}
+
+abbrev pub pick : {A : Type 0} → Bool → A → A → A
+pick true a b = a
+pick false a b = b
+
+-- one of two statements
+abbrev pub pickT : Bool → Type 0 → Type 0 → Type 0
+pickT true a b = a
+pickT false a b = b

@@ -1,0 +1,1 @@
+// What definitions and proofs of many crates share. There is no code.
