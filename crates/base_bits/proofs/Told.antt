@@ -53,7 +53,7 @@ module _ {s : List ℕ} {p : ℕ} {fs : List Field} {F G : ℕ → Field → Typ
   stops-so : (h : StopsAt s p fs F) → G (p + size (h .before)) (h .at) → StopsAt s p fs G
   stops-so h g = record { before = h .before; at = h .at; after = h .after; split = h .split; well = h .well; fault = g }
 
--- what each number says of the frame: the line of document 01's table for 6, and those for 4 and 5
+-- what each number says of the frame: the line of docs/RULES.md's table for 6, and those for 4 and 5
 module _ {A B : Type 0} {f : A → List Field} {r : Reader A} (law : Reads Any f r) (g : A → B) (s : List ℕ) (p : ℕ) where
   pub past-end-exactly : (over g (r s p) ≡ refused PastEnd) ↔ ((a : A) × Ranged (f a) × CutOff s p (f a))
   past-end-exactly = (

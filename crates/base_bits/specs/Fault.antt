@@ -20,7 +20,7 @@ pub record StopsIn (s : List ℕ) (fs : List Field) (F : List ℕ → Field → 
   pub begins : Begins s (flat before)
   pub fault : F (flat before) at
 
--- document 01's number 6: the field f, after the bits l, has bits past the last one of s
+-- docs/RULES.md's number 6: the field f, after the bits l, has bits past the last one of s
 abbrev pub PastLast : List ℕ → List ℕ → Field → Type 0
 PastLast s l f = length (bitsOf s) < length l + f .width
 
@@ -61,7 +61,7 @@ pub record Other (s : List ℕ) (k : Mark) (q : ℕ) (f : Field) : Type 0 where
   pub stands : Stands s q (spell (f .width) found)
   pub differs : found ≡ expected → ⊥
 
--- document 01's 6, and its 4 and 5, by places
+-- docs/RULES.md's 6, and its 4 and 5, by places
 abbrev pub CutOff : List ℕ → ℕ → List Field → Type 0
 CutOff s p fs = StopsAt s p fs (Over s)
 

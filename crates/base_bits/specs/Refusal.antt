@@ -1,4 +1,4 @@
--- Document 01's numbers for a refused header, the marks, and the names of fields.
+-- docs/RULES.md's numbers for a refused header, the marks, and the names of fields.
 -- Assumes nothing.
 use Prim.Native.Nat.{ℕ}
 use Prim.Native.String.{String}
@@ -22,7 +22,7 @@ the x = record { of = x; nth = [] }
 abbrev pub item : String → ℕ → Name
 item x i = record { of = x; nth = i ∷ [] }
 
--- refusals: document 01's number
+-- refusals: docs/RULES.md's number
 abbrev pub refusalNumber : Refusal → ℕ
 refusalNumber FrameMarker = 4
 refusalNumber SyncCode = 5

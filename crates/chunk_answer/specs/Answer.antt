@@ -1,4 +1,4 @@
--- What a chunk is answered: document 01, "Numbers a caller can get back".
+-- What a chunk is answered: docs/RULES.md, "Numbers a caller can get back".
 -- Assumes nothing.
 use Prim.Native.Nat.{ℕ}
 use lib.ListN.{replicate}
@@ -9,7 +9,7 @@ use Rattle.chunk_answer.specs.declared.Answer.{Answer}
 use Rattle.chunk_answer.specs.declared.Answer.the-variants as answer
 use Rattle.chunk_answer.specs.declared.ChunkRead.{ChunkRead}
 
--- document 01's number, 0 for a chunk that is accepted
+-- docs/RULES.md's number, 0 for a chunk that is accepted
 abbrev pub chunkNumber : Answer → ℕ
 chunkNumber (answer.Frames n) = 0
 chunkNumber answer.Empty = 1

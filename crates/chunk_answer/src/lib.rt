@@ -19,7 +19,7 @@ pub enum Answer {
 }
 
 impl Answer {
-    // Document 01's number, 0 where the chunk is accepted.
+    // docs/RULES.md's number, 0 where the chunk is accepted.
     pub fn number(self) -> u8
         ensures { λ r. ⌜ r ≡ chunkNumber self ⌝ }
     {

@@ -1,4 +1,4 @@
--- Document 01, "Picture choice".
+-- docs/RULES.md, "Picture choice".
 -- Assumes nothing.
 use Prim.Native.Nat.{ℕ, _+_, _-_}
 use mathlib.Core.Path.{_≡_}

@@ -1,4 +1,4 @@
--- A frame of a chunk, at an offset and of a size: document 01's number 3 where it lies outside.
+-- A frame of a chunk, at an offset and of a size: docs/RULES.md's number 3 where it lies outside.
 -- Assumes nothing.
 use Prim.Native.Nat.{ℕ, _-_}
 use mathlib.Core.Bool.{Bool, _&&_}

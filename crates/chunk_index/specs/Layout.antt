@@ -1,4 +1,4 @@
--- Where the frames of a chunk lie: VP9's Annex B and document 01, "Superframe index".
+-- Where the frames of a chunk lie: VP9's Annex B and docs/RULES.md, "Superframe index".
 -- Assumes nothing.
 use Prim.Native.Nat.{ℕ, zero, suc, _+_, _-_, _*_, _/_, _%_}
 use mathlib.Core.Bool.{Bool, _&&_}

@@ -12,7 +12,7 @@ use Rattle.chunk_index.specs.declared.Split.{Split}
 use Rattle.chunk_index.specs.Layout.{Layout, cut, layoutOf, start, frameEnd}
 use Rattle.base_shared.specs.Lists.{first}
 
--- document 01's number, 0 for a chunk that is split
+-- docs/RULES.md's number, 0 for a chunk that is split
 abbrev pub splitNumber : Answer → ℕ
 splitNumber (Frames n) = 0
 splitNumber Empty = 1
@@ -46,6 +46,6 @@ places l = record { answer = Frames (l .frames); at = filled 0 (start (l .size))
 unfoldable pub placed : Layout → Split
 placed l = pick (ltb (firstPast l) (l .frames)) (refusedSplit (Past (firstPast l))) (places l)
 
--- document 01's order: 1, 2, then 3
+-- docs/RULES.md's order: 1, 2, then 3
 unfoldable pub splitOf : List ℕ → Split
 splitOf s = pick (eqb (length s) 0) (refusedSplit Empty) (pick (cut s) (refusedSplit Short) (placed (layoutOf s)))

@@ -1,4 +1,4 @@
--- Document 01's table, numbers 1 to 3, and what holds of a chunk that is split, stated on its bytes. proofs/Table.antt and proofs/Tiles.antt show that `splitOf` is so.
+-- docs/RULES.md's table, numbers 1 to 3, and what holds of a chunk that is split, stated on its bytes. proofs/Table.antt and proofs/Tiles.antt show that `splitOf` is so.
 -- Assumes nothing.
 use Prim.Native.Nat.{ℕ, _+_, _≤_, _<_}
 use mathlib.Core.Path.{_≡_}
@@ -31,7 +31,7 @@ pub record FirstPast (l : Layout) (i : ℕ) : Type 0 where
   pub earlier : (j : ℕ) → j < i → frameEnd l j ≤ l .room
   pub past : l .room < frameEnd l i
 
--- when each answer is given, in document 01's order: numbers 1, 2 and 3, and a chunk that is split
+-- when each answer is given, in docs/RULES.md's order: numbers 1, 2 and 3, and a chunk that is split
 abbrev pub SplitWhen : Answer → List ℕ → Type 0
 SplitWhen Empty s = NoBytes s
 SplitWhen Short s = Cut s

@@ -1,4 +1,4 @@
--- Document 01's table: each answer is given exactly when its line says so, and a refusal changes nothing.
+-- docs/RULES.md's table: each answer is given exactly when its line says so, and a refusal changes nothing.
 -- Assumes nothing.
 use Prim.Native.Nat.{ℕ}
 use mathlib.Core.Path.{_≡_, refl, sym, ap, _∙_}

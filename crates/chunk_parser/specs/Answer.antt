@@ -28,7 +28,7 @@ abbrev pub answered : ChunkRead → ReaderState → FaultFound → ChunkRead
 answered r st none = r
 answered r st (fault i e) = refusedChunk (answer.Header i e) st
 
--- document 01's order: 1, 2 and 3 for all frames, then the headers in turn
+-- docs/RULES.md's order: 1, 2 and 3 for all frames, then the headers in turn
 abbrev pub chunkBy : List ℕ → Split → ReaderState → SplitAnswer → ChunkRead
 chunkBy s p st split.Empty = refusedChunk answer.Empty st
 chunkBy s p st split.Short = refusedChunk answer.Short st

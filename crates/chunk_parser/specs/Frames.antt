@@ -1,4 +1,4 @@
--- The frames of a chunk, each under the state that the frames before it left: document 01, "Numbers a caller can get back".
+-- The frames of a chunk, each under the state that the frames before it left: docs/RULES.md, "Numbers a caller can get back".
 -- Assumes nothing.
 use Prim.Native.Nat.{ℕ, zero, suc, _+_}
 use mathlib.Core.List.{List}

@@ -1,4 +1,4 @@
--- Document 01's table for a chunk, stated on its bytes and the state before it. proofs/Table.antt shows that `chunkOf` is so.
+-- docs/RULES.md's table for a chunk, stated on its bytes and the state before it. proofs/Table.antt shows that `chunkOf` is so.
 -- Assumes nothing.
 use Prim.Native.Nat.{ℕ, _<_}
 use mathlib.Core.List.{List}

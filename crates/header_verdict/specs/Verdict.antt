@@ -7,7 +7,7 @@ use Rattle.header_verdict.specs.declared.Verdict.the-variants.{Accepted,
 use Rattle.header_verdict.specs.declared.Place.{Place}
 use Rattle.header_verdict.specs.declared.Place.the-variants.{Outside, Inside}
 
--- document 01's number, and 0 for what is accepted
+-- docs/RULES.md's number, and 0 for what is accepted
 abbrev pub verdictNumber : Verdict → ℕ
 verdictNumber Accepted = 0
 verdictNumber (Refused e) = refusalNumber e

@@ -9,7 +9,7 @@ pub enum Verdict {
 }
 
 impl Verdict {
-    // Document 01's number, and 0 for what is accepted.
+    // docs/RULES.md's number, and 0 for what is accepted.
     pub fn number(self) -> u8
         ensures { λ r. ⌜ r ≡ verdictNumber self ⌝ }
     {
@@ -27,7 +27,7 @@ pub enum Place {
 }
 
 impl Place {
-    // Document 01's number, and 0 for what is accepted.
+    // docs/RULES.md's number, and 0 for what is accepted.
     pub fn number(self) -> u8
         ensures { λ r. ⌜ r ≡ placeNumber self ⌝ }
     {

@@ -1,4 +1,4 @@
--- What stands next in an IVF file, of which s is at hand: document 01's records, refusals 8 and 9.
+-- What stands next in an IVF file, of which s is at hand: docs/RULES.md's records, refusals 8 and 9.
 -- Assumes nothing.
 use Prim.Native.Nat.{ℕ, _+_}
 use mathlib.Core.Bool.{Bool}

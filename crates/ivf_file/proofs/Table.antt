@@ -1,4 +1,4 @@
--- Document 01's table, numbers 7 and 8: each is given exactly when its line says so.
+-- docs/RULES.md's table, numbers 7 and 8: each is given exactly when its line says so.
 -- Assumes nothing.
 use Prim.Native.Nat.{ℕ, _+_, _<_, _≤_}
 use mathlib.Core.Path.{_≡_, refl, sym, _∙_}

@@ -1,4 +1,4 @@
--- The header of an IVF file: document 01, "IVF", and number 7.
+-- The header of an IVF file: docs/RULES.md, "IVF", and number 7.
 -- Assumes nothing.
 use Prim.Native.Nat.{ℕ, _+_}
 use mathlib.Core.Bool.{Bool, true, _&&_}
@@ -39,7 +39,7 @@ fileHeaderOf f = record { width = little f 12 2; height = little f 14 2; rate = 
 unfoldable pub fileOf : List ℕ → FileRead
 fileOf f = pick (isIvf f) (Header (fileHeaderOf f)) Refused
 
--- document 01's number, 0 for a header
+-- docs/RULES.md's number, 0 for a header
 abbrev pub fileNumber : FileRead → ℕ
 fileNumber (Header h) = 0
 fileNumber Refused = 7

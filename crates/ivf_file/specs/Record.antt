@@ -1,4 +1,4 @@
--- A record of an IVF file: document 01, "IVF", and number 8.
+-- A record of an IVF file: docs/RULES.md, "IVF", and number 8.
 -- Assumes nothing.
 use Prim.Native.Nat.{ℕ, _+_}
 use mathlib.Core.Bool.{Bool}
@@ -32,7 +32,7 @@ cutShort f p = ltb (length f) (dataEnd f p)
 unfoldable pub recordOf : List ℕ → ℕ → RecordRead
 recordOf f p = pick (eqb p (length f)) read.End (pick (cutShort f p) read.Cut (read.Record (recordAt f p)))
 
--- document 01's number, 0 for a record and for the end
+-- docs/RULES.md's number, 0 for a record and for the end
 abbrev pub recordNumber : RecordRead → ℕ
 recordNumber (read.Record r) = 0
 recordNumber read.End = 0

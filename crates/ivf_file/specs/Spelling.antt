@@ -1,4 +1,4 @@
--- An IVF file from its values to its bytes: document 01, "IVF".
+-- An IVF file from its values to its bytes: docs/RULES.md, "IVF".
 -- Assumes nothing.
 use Prim.Native.Nat.{ℕ, _+_, _^_, _<_}
 use mathlib.Core.Path.{_≡_}

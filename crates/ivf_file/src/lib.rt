@@ -17,7 +17,7 @@ pub struct IvfHeader {
 
 pub enum FileRead {
     Header(IvfHeader),
-    // Document 01's 7.
+    // docs/RULES.md's 7.
     Refused,
 }
 
@@ -95,7 +95,7 @@ pub enum RecordRead {
     Record(Record),
     // The file ends here, with its header or a record.
     End,
-    // The record's header or data is cut short: document 01's 8.
+    // The record's header or data is cut short: docs/RULES.md's 8.
     Cut,
 }
 

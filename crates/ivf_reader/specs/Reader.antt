@@ -1,4 +1,4 @@
--- The record reader's place: document 01, "The record reader keeps the lent file and its place together".
+-- The record reader's place: docs/RULES.md, "The record reader keeps the lent file and its place together".
 -- Assumes nothing.
 use Prim.Native.Nat.{ℕ}
 use mathlib.Core.List.{List}

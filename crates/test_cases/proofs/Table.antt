@@ -1,4 +1,4 @@
--- Document 01's cases, by computation.
+-- docs/RULES.md's cases, by computation.
 -- Assumes nothing.
 use mathlib.Core.Path.{refl}
 use Rattle.base_bits.specs.Bit as Bit

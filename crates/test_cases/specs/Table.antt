@@ -1,4 +1,4 @@
--- Document 01, "Numbers on each side of the line": the cases marked P, in its order, each a statement about the definitions.
+-- docs/RULES.md, "Numbers on each side of the line": the cases marked P, in its order, each a statement about the definitions.
 -- Assumes nothing.
 use Prim.Native.Nat.{ℕ, zero, suc, _+_}
 use mathlib.Core.Path.{_≡_}
@@ -33,7 +33,7 @@ pub record Frame : Type 0 where
   pub refresh : ℕ
   pub bytes : ℕ
 
--- and of a chunk: document 01's number, the frame number, and the frames
+-- and of a chunk: docs/RULES.md's number, the frame number, and the frames
 pub record Said : Type 0 where
   pub number : ℕ
   pub frame : ℕ

@@ -1,4 +1,4 @@
--- The frames' lines of document 01's example of a listing, computed.
+-- The frames' lines of docs/RULES.md's example of a listing, computed.
 -- Assumes nothing.
 use mathlib.Core.Path.{_≡_}
 use mathlib.Core.Bool.{true, false}

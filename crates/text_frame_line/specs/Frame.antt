@@ -1,4 +1,4 @@
--- What a frame is called, and its line: document 01, "IVF, picture choice, listing".
+-- What a frame is called, and its line: docs/RULES.md, "IVF, picture choice, listing".
 -- Assumes nothing.
 use Prim.Native.Nat.{ℕ}
 use mathlib.Core.Bool.{Bool}

@@ -1,4 +1,4 @@
--- A line of text, and a line put into a buffer: document 01, "IVF, picture choice, listing".
+-- A line of text, and a line put into a buffer: docs/RULES.md, "IVF, picture choice, listing".
 -- Assumes nothing.
 use Prim.Native.Nat.{ℕ, _+_}
 use mathlib.Core.Path.{_≡_}

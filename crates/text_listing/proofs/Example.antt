@@ -1,4 +1,4 @@
--- The other lines of document 01's example of a listing, computed, and the line of refusal 7.
+-- The other lines of docs/RULES.md's example of a listing, computed, and the line of refusal 7.
 -- Assumes nothing.
 use mathlib.Core.Path.{_≡_, refl}
 use Rattle.text_numeral.specs.Ascii.{ascii}

@@ -1,4 +1,4 @@
--- The lines of a listing besides those of frames: document 01, "IVF, picture choice, listing".
+-- The lines of a listing besides those of frames: docs/RULES.md, "IVF, picture choice, listing".
 -- Assumes nothing.
 use Prim.Native.Nat.{ℕ}
 use mathlib.Core.List.{List, [], _∷_}

@@ -16,7 +16,7 @@ pub fn column_line(out: &mut [u8], at: usize) -> usize
     )
 }
 
-// A chunk that is refused, with document 01's number and the number of the frame at fault.
+// A chunk that is refused, with docs/RULES.md's number and the number of the frame at fault.
 pub fn refused_line(out: &mut [u8], at: usize, chunk: u64, number: u8, frame: usize) -> usize
     ensures { λ r. ⌜ Line (now (out .entry)) at (refusedLine chunk number frame) r (now (out .exit)) ⌝ }
 {
@@ -30,7 +30,7 @@ pub fn refused_line(out: &mut [u8], at: usize, chunk: u64, number: u8, frame: us
     text_line::put_last(out, d, frame as u64)
 }
 
-// A file that is refused, with document 01's number.
+// A file that is refused, with docs/RULES.md's number.
 pub fn file_refused_line(out: &mut [u8], at: usize, number: u8) -> usize
     ensures { λ r. ⌜ Line (now (out .entry)) at (fileRefusedLine number) r (now (out .exit)) ⌝ }
 {

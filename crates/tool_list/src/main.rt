@@ -1,4 +1,4 @@
-// Lists an IVF file from standard input, as document 01 shows it, in constant memory. What decides a line stands in `arriving`, `chunk` and `ivf`, and its text in `frame_line` and `listing`.
+// Lists an IVF file from standard input, as docs/RULES.md shows it, in constant memory. What decides a line stands in `arriving`, `chunk` and `ivf`, and its text in `frame_line` and `listing`.
 // What is read and not used yet lies in the input buffer from `start` to `end`, and the text that is not written yet at the front of the output buffer.
 ghost use Prim.Native.Nat.{_≤_};
 ghost use mathlib.Core.Path.{_≡_};

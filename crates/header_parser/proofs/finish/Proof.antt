@@ -18,7 +18,7 @@ refused-requires c κs = search needs
 returns : tie.Need-returns
 returns c = search finish-short
 
-frame-record-requires : tie.Need-frame-header-requires
+frame-record-requires : tie.Need-frame-record-requires
 frame-record-requires c κs = search needs
 
 frame-state-requires : tie.Need-frame-state-requires
