@@ -10,36 +10,20 @@ use native.Mathlib.Omega.{arith}
 use lib.ListN.{length, getD, take, drop, length-append, take-append-drop, drop-of-length-le}
 use lib.Seq.{append-snoc, getD-append-seam, getD-at, drop-cons, take-add, drop-drop, take-append-seam, ext-getD}
 use Rattle.base_little.specs.Little as Little
-use Rattle.base_little.specs.Little.{little}
+use Rattle.base_little.specs.Little.{little, spellLittle}
 use Rattle.chunk_index.specs.Layout.{framesIn, bytesPerSize, indexBytes, indexStart, lastByte, layoutOf}
 use Rattle.chunk_index.specs.Table.{Cut, Indexed}
-use Rattle.chunk_index.specs.Spelling.{IndexValues, spellLittle, spellSizes, headerByte, spellIndex, Below, IndexRanged, LaidBy}
+use Rattle.chunk_index.specs.Spelling.{IndexValues, spellSizes, headerByte, spellIndex, Below, IndexRanged, LaidBy}
 use Rattle.base_shared.proofs.Order.{below}
 use Rattle.chunk_index.proofs.Cases.{layout-indexed}
-
-length-little : (n v : ℕ) → length (spellLittle n v) ≡ n
-unfolding spellLittle
-length-little zero v = refl
-length-little (suc n) v = ap suc (length-little n _)
+use Rattle.base_little.proofs.Spelling.{length-little, little-spelt}
 
 length-sizes : (n : ℕ) (zs : List ℕ) → length (spellSizes n zs) ≡ length zs * n
 unfolding spellSizes
 length-sizes n [] = sym (rw zero-mul)
 length-sizes n (z ∷ zs) = rw (length-append, length-little, length-sizes n zs, suc-mul) (omega arith)
 
--- a number stands where its spelling does
-little-spelt : (a b : List ℕ) (n v : ℕ) → v < 256 ^ n → little (a ++ (spellLittle n v ++ b)) (length a) n ≡ v
-unfolding spellLittle Little.little
-little-spelt a b zero v h = omega arith
-little-spelt a b (suc n) v h =
-    let low = v % 256 in
-    let more = spellLittle n (v / 256) ++ b in
-    let l : length a + 1 ≡ length (a ++ (low ∷ [])) = sym (length-append a (low ∷ [])) in
-    let here : getD (a ++ (low ∷ more)) (length a) 0 ≡ low = getD-append-seam a low more 0 in
-    let rest : little (a ++ (low ∷ more)) (length a + 1) n ≡ v / 256 = rw (l, ← append-snoc a low) (little-spelt (a ++ (low ∷ [])) b n (v / 256) (omega arith)) in
-    omega arith
-
--- so does size i
+-- size i stands where its spelling does
 size-spelt : (a b : List ℕ) (n : ℕ) (zs : List ℕ) (i : ℕ) → Below (256 ^ n) zs → i < length zs → little (a ++ (spellSizes n zs ++ b)) (length a + i * n) n ≡ getD zs i 0
 unfolding spellSizes
 size-spelt a b n [] i r h = absurd (omega arith)

@@ -5,16 +5,12 @@ use mathlib.Core.Path.{_≡_}
 use mathlib.Core.List.{List, [], _∷_, _++_}
 use lib.ListN.{length, getD}
 use Rattle.chunk_index.specs.Layout.{Layout}
+use Rattle.base_little.specs.Little.{spellLittle}
 
 -- bytes_per_framesize_minus_1, and the frame_sizes, which are frames_in_superframe_minus_1 + 1
 pub record IndexValues : Type 0 where
   pub bytes-minus-1 : ℕ
   pub sizes : List ℕ
-
--- le(n): n bytes, low byte first
-unfoldable pub spellLittle : ℕ → ℕ → List ℕ
-spellLittle zero v = []
-spellLittle (suc n) v = v % 256 ∷ spellLittle n (v / 256)
 
 unfoldable pub spellSizes : ℕ → List ℕ → List ℕ
 spellSizes n [] = []

@@ -5,5 +5,4 @@ pub mod Stands
 pub mod Table
 pub mod Inside
 pub mod Part
-pub mod Little
 pub mod Spelling

@@ -14,11 +14,7 @@ use Rattle.base_little.specs.declared.Little.the-variants.{Value}
 use Rattle.base_little.specs.Little.{little, readLittle}
 use Rattle.base_little.proofs.Bytes.{little-value}
 use Rattle.base_little.proofs.Little.{the-type}
-
-pub little-lt : (s : List ℕ) → ((i : ℕ) → getD s i 0 < 256) → (at n : ℕ) → little s at n < 256 ^ n
-unfolding little
-little-lt s bytes at zero = omega arith
-little-lt s bytes at (suc n) = rw pow-succ' (omega (arith, bytes at, little-lt s bytes (at + 1) n))
+use Rattle.base_little.proofs.Spelling.{little-lt}
 
 module _ (s : List ℕ) (at n : ℕ) (small : n ≤ 8) (there : at + n ≤ length s) (r : Little) (e : r ≡ readLittle s at n) where
   known : r ≡ Value (little s at n)

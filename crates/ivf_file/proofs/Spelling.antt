@@ -11,9 +11,8 @@ use lib.ListN.{length, getD, take, drop, length-append, length-drop, take-append
 use lib.Seq.{drop-drop, length-take-le}
 use borrow.Author.Tests.{eqb-true, eqb-false}
 use Rattle.base_little.specs.Little as Little
-use Rattle.base_little.specs.Little.{little}
+use Rattle.base_little.specs.Little.{little, spellLittle}
 use Rattle.chunk_index.specs.Spelling as Spelling
-use Rattle.chunk_index.specs.Spelling.{spellLittle}
 use Rattle.ivf_file.specs.declared.IvfHeader.{IvfHeader}
 use Rattle.ivf_file.specs.declared.Record.{Record}
 use Rattle.ivf_file.specs.declared.FileRead.the-variants.{Header}
@@ -22,8 +21,8 @@ use Rattle.ivf_file.specs.File.{dkif, vp90, standsAt, fileHeaderOf, file
 use Rattle.ivf_file.specs.Record.{recordAt, recordOf}
 use Rattle.ivf_file.specs.Table.{Lacks}
 use Rattle.ivf_file.specs.Spelling.{FileValues, spellHeader, FileRanged, FileBegins, spellRecord, recordFrom, RecordStands}
-use Rattle.ivf_file.proofs.Numbers.{little-lt}
-use Rattle.ivf_file.proofs.Little.{length-little, little-spelt, little-bytes}
+use Rattle.base_little.proofs.Spelling.{little-lt}
+use Rattle.base_little.proofs.Spelling.{length-little, little-spelt, little-bytes}
 use Rattle.ivf_file.proofs.Stands.{stands-part}
 use Rattle.ivf_file.proofs.Table.{lacks, file-exactly, record-exactly}
 

@@ -4,7 +4,7 @@ use Prim.Native.Nat.{ℕ, _+_, _^_, _<_}
 use mathlib.Core.Path.{_≡_}
 use mathlib.Core.List.{List, [], _∷_, _++_}
 use lib.ListN.{length}
-use Rattle.chunk_index.specs.Spelling.{spellLittle}
+use Rattle.base_little.specs.Little.{spellLittle}
 use Rattle.ivf_file.specs.declared.IvfHeader.{IvfHeader}
 use Rattle.ivf_file.specs.declared.Record.{Record}
 use Rattle.ivf_file.specs.File.{dkif, vp90}

@@ -3,7 +3,7 @@ ghost use mathlib.Core.Path.{_≡_};
 ghost use mathlib.Core.List.{_++_};
 ghost use Rattle.text_numeral.specs.Ascii.{ascii};
 ghost use Rattle.text_numeral.specs.Numeral.{numeral};
-ghost use Rattle.text_numeral.specs.Put.{Written};
+ghost use Rattle.base_bytes.specs.Put.{Written};
 ghost use Rattle.text_line.specs.Line.{Line};
 ghost use Rattle.text_frame_line.specs.Frame.{frameKind, kindWord, frameLine};
 use base_enums::FrameType;
@@ -40,10 +40,10 @@ fn put_kind(out: &mut [u8], at: usize, kind: Kind) -> usize
     ensures { λ r. ⌜ Written (now (out .entry)) at (kindWord kind) r (now (out .exit)) ⌝ }
 {
     match kind {
-        Kind::Key => text_numeral::put(out, at, b"key"),
-        Kind::Intra => text_numeral::put(out, at, b"intra"),
-        Kind::Inter => text_numeral::put(out, at, b"inter"),
-        Kind::Show => text_numeral::put(out, at, b"show"),
+        Kind::Key => base_bytes::put(out, at, b"key"),
+        Kind::Intra => base_bytes::put(out, at, b"intra"),
+        Kind::Inter => base_bytes::put(out, at, b"inter"),
+        Kind::Show => base_bytes::put(out, at, b"show"),
     }
 }
 
@@ -54,7 +54,7 @@ fn put_frame(out: &mut [u8], at: usize, chunk: u64, frame: u64, kind: Kind) -> u
     let a = text_line::put_field(out, at, chunk);
     let b = text_line::put_field(out, a, frame);
     let c = put_kind(out, b, kind);
-    text_numeral::put(out, c, b" ")
+    base_bytes::put(out, c, b" ")
 }
 
 // `at size width height `

@@ -8,8 +8,8 @@ use native.Mathlib.Omega.{arith}
 use lib.Dec.{leb}
 use lib.ListN.{length}
 use borrow.Author.Tests.{leb-true, leb-false, le-leb, lt-leb, not-true, not-false}
-use Rattle.text_numeral.specs.Put.{Written}
-use Rattle.text_numeral.proofs.Append.{whole-place, whole-text}
+use Rattle.base_bytes.specs.Put.{Written}
+use Rattle.base_bytes.proofs.Append.{whole-place, whole-text}
 use Rattle.text_line.specs.Line.{hasRoom, Line}
 
 -- the room: at is within, or not

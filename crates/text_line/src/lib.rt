@@ -3,7 +3,7 @@ ghost use mathlib.Core.Path.{_≡_};
 ghost use mathlib.Core.List.{_++_};
 ghost use Rattle.text_numeral.specs.Ascii.{ascii};
 ghost use Rattle.text_numeral.specs.Numeral.{numeral};
-ghost use Rattle.text_numeral.specs.Put.{Written};
+ghost use Rattle.base_bytes.specs.Put.{Written};
 ghost use Rattle.text_line.specs.Line.{hasRoom};
 
 // No line is longer.
@@ -24,7 +24,7 @@ pub fn put_field(out: &mut [u8], at: usize, n: u64) -> usize
     ensures { λ r. ⌜ Written (now (out .entry)) at (numeral n ++ ascii " ") r (now (out .exit)) ⌝ }
 {
     let next = text_numeral::put_number(out, at, n);
-    text_numeral::put(out, next, b" ")
+    base_bytes::put(out, next, b" ")
 }
 
 // A number and the line's end.
@@ -32,5 +32,5 @@ pub fn put_last(out: &mut [u8], at: usize, n: u64) -> usize
     ensures { λ r. ⌜ Written (now (out .entry)) at (numeral n ++ ascii "\n") r (now (out .exit)) ⌝ }
 {
     let next = text_numeral::put_number(out, at, n);
-    text_numeral::put(out, next, b"\n")
+    base_bytes::put(out, next, b"\n")
 }

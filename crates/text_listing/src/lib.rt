@@ -9,7 +9,7 @@ pub fn column_line(out: &mut [u8], at: usize) -> usize
     if !text_line::has_room(out.len(), at) {
         return at;
     }
-    text_numeral::put(
+    base_bytes::put(
         out,
         at,
         b"chunk frame kind at size width height refresh hdr\n",
@@ -24,9 +24,9 @@ pub fn refused_line(out: &mut [u8], at: usize, chunk: u64, number: u8, frame: us
         return at;
     }
     let a = text_numeral::put_number(out, at, chunk);
-    let b = text_numeral::put(out, a, b" refused ");
+    let b = base_bytes::put(out, a, b" refused ");
     let c = text_numeral::put_number(out, b, number as u64);
-    let d = text_numeral::put(out, c, b" frame ");
+    let d = base_bytes::put(out, c, b" frame ");
     text_line::put_last(out, d, frame as u64)
 }
 
@@ -37,7 +37,7 @@ pub fn file_refused_line(out: &mut [u8], at: usize, number: u8) -> usize
     if !text_line::has_room(out.len(), at) {
         return at;
     }
-    let a = text_numeral::put(out, at, b"file refused ");
+    let a = base_bytes::put(out, at, b"file refused ");
     text_line::put_last(out, a, number as u64)
 }
 
@@ -49,7 +49,7 @@ pub fn last_line(out: &mut [u8], at: usize, chunks: u64, refused: u64) -> usize
         return at;
     }
     let a = text_numeral::put_number(out, at, chunks);
-    let b = text_numeral::put(out, a, b" chunks ");
+    let b = base_bytes::put(out, a, b" chunks ");
     let c = text_numeral::put_number(out, b, refused);
-    text_numeral::put(out, c, b" refused\n")
+    base_bytes::put(out, c, b" refused\n")
 }

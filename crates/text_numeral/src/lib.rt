@@ -1,49 +1,12 @@
-// Text in a buffer of bytes: each call puts a piece at a place and answers the place after it.
-ghost use Prim.Native.Nat.{_-_, _≤_, min};
-ghost use mathlib.Core.Path.{_≡_};
-ghost use lib.ListN.{length};
-ghost use lib.Seq.{paste};
-ghost use Rattle.text_numeral.specs.Put.{Written};
+// Numbers as text: put into a buffer as other bytes are.
+ghost use Rattle.base_bytes.specs.Put.{Written};
 ghost use Rattle.text_numeral.specs.Numeral.{numeral};
 
-fn least(a: usize, b: usize) -> usize
-    ensures { λ r. ⌜ r ≡ min a b ⌝ }
-{
-    if a < b { a } else { b }
-}
-
-// How many bytes there are from `at` on.
-fn room(len: usize, at: usize) -> usize
-    ensures { λ r. ⌜ r ≡ len - at ⌝ }
-{
-    if at < len { len - at } else { 0 }
-}
-
-fn copy(out: &mut [u8], at: usize, text: &[u8], n: usize)
-    requires { ⌜ (n ≤ length (now text)) × (n ≤ length (now out) - at) ⌝ }
-    ensures { λ _. ⌜ now (out .exit) ≡ paste (now (out .entry)) at (now (text .entry)) n ⌝ }
-{
-    let mut i = 0;
-    while i < n {
-        out[at + i] = text[i];
-        i += 1;
-    }
-}
-
-// As much of the text as there is room for.
-pub fn put(out: &mut [u8], at: usize, text: &[u8]) -> usize
-    ensures { λ r. ⌜ Written (now (out .entry)) at (now (text .entry)) r (now (out .exit)) ⌝ }
-{
-    let n = least(text.len(), room(out.len(), at));
-    copy(out, at, text, n);
-    at + n
-}
-
-// A number in decimal digits, likewise.
+// A number in decimal digits, as much of it as there is room for; the answer is the place after it.
 pub fn put_number(out: &mut [u8], at: usize, n: u64) -> usize
     ensures { λ r. ⌜ Written (now (out .entry)) at (numeral n) r (now (out .exit)) ⌝ }
 {
     let mut digits = [0u8; 20];
     let k = io::decimal(n, &mut digits);
-    put(out, at, &digits[..k])
+    base_bytes::put(out, at, &digits[..k])
 }

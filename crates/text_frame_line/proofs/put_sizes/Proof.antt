@@ -1,4 +1,4 @@
-use Rattle.text_numeral.proofs.Append.{then}
+use Rattle.base_bytes.proofs.Append.{then}
 use borrow.Author.Needs.{needs}
 use Rattle.text_frame_line.proofs.put_sizes.Statement.{statement}
 use Rattle.text_frame_line.proofs.put_sizes.Tie as tie

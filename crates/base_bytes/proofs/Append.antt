@@ -11,7 +11,7 @@ use lib.ListN.{length, take, drop, length-append}
 use lib.Seq.{paste, paste-zero, length-paste, take-paste, drop-paste, drop-drop, take-append-add, take-append-le, take-length}
 use lib.Dec.{ltb}
 use borrow.Author.Tests.{ltb-true, ltb-false}
-use Rattle.text_numeral.specs.Put.{fitting, putInto, placeAfter, Written}
+use Rattle.base_bytes.specs.Put.{fitting, putInto, placeAfter, Written}
 use Rattle.base_shared.proofs.Order.{below}
 
 paste-join : (d a b : List ℕ) (at m : ℕ) → at + length a ≤ length d → paste (paste d at a (length a)) (at + length a) b m ≡ paste d at (a ++ b) (length a + m)

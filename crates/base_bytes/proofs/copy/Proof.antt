@@ -5,8 +5,8 @@ use native.Mathlib.Numerals.{add-one}
 use lib.ListN.{length, length-set}
 use lib.Seq.{paste, paste-zero, paste-suc}
 use borrow.Author.Needs.{needs}
-use Rattle.text_numeral.proofs.copy.Statement.{statement}
-use Rattle.text_numeral.proofs.copy.Tie as tie
+use Rattle.base_bytes.proofs.copy.Statement.{statement}
+use Rattle.base_bytes.proofs.copy.Tie as tie
 
 abbrev Inv-loop : tie.InvT-loop
 Inv-loop out₀ at text n i₀ out i = (i ≤ n) × (length out ≡ length out₀) × (out ≡ paste out₀ at text i)

@@ -1,8 +1,8 @@
 use native.Mathlib.Omega.{arith}
-use Rattle.text_numeral.proofs.Append.{written}
+use Rattle.base_bytes.proofs.Append.{written}
 use borrow.Author.Needs.{needs}
-use Rattle.text_numeral.proofs.put.Statement.{statement}
-use Rattle.text_numeral.proofs.put.Tie as tie
+use Rattle.base_bytes.proofs.put.Statement.{statement}
+use Rattle.base_bytes.proofs.put.Tie as tie
 
 room-requires : tie.Need-room-requires
 room-requires c κs = search needs
