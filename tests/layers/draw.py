@@ -55,8 +55,10 @@ def named(crate, needs):
     for folder, _, files in os.walk(os.path.join(ROOT, "crates", crate)):
         for file in files:
             if file.endswith((".rt", ".antt")):
-                with open(os.path.join(folder, file), encoding="utf-8") as text:
-                    found.update(re.findall(r"Rattle·([a-z_]+)[.·]|\b([a-z_]+)::", text.read()))
+                with open(os.path.join(folder, file), encoding="utf-8") as lines:
+                    for line in lines:
+                        code = re.split(r"//|--", line)[0]
+                        found.update(re.findall(r"Rattle·([a-z_]+)[.·]|\b([a-z_]+)::", code))
     return {name for pair in found for name in pair if name in needs and name != crate}
 
 

@@ -46,15 +46,22 @@ groupIf b d r = pick b r (give d)
 unfoldable pub fieldIf : Bool → Name → ℕ → Reader ℕ
 fieldIf b x n = pick b (field x n) (give 0)
 
--- what the code answers: a value and the place past it, or the refusal
-pub data Got (A : Type 0) : Type 0 where
-  got : A → ℕ → Got A
-  refused : Refusal → Got A
+-- what is answered to a reading: a value and the place past it, or what is kept of the reason
+pub data Told (E A : Type 0) : Type 0 where
+  got : A → ℕ → Told E A
+  refused : E → Told E A
 
--- the code's answer to a reading: what f makes of the value, or the refusal without its reason
+-- what f makes of the value, or what `keep` keeps of the reason
+abbrev pub tell : {E A B : Type 0} → (Reason → E) → (A → B) → Read A → Told E B
+tell keep f (read a p) = got (f a) p
+tell keep f (stopped w) = refused (keep w)
+
+-- the code's answer keeps the refusal
+abbrev pub Got : Type 0 → Type 0
+Got A = Told Refusal A
+
 abbrev pub over : {A B : Type 0} → (A → B) → Read A → Got B
-over f (read a p) = got (f a) p
-over f (stopped w) = refused (w .refusal)
+over f m = tell (λ w. w .refusal) f m
 
 -- the code's answer where the value stands beside its place
 abbrev pub viewNext : {A : Type 0} → A → Next → Got A
@@ -62,6 +69,6 @@ viewNext a (At c) = got a (c .at)
 viewNext a (Refused e) = refused e
 
 -- an answer with what g makes of its value
-abbrev pub alter : {A B : Type 0} → (A → B) → Got A → Got B
+abbrev pub alter : {E A B : Type 0} → (A → B) → Told E A → Told E B
 alter g (got a p) = got (g a) p
 alter g (refused e) = refused e

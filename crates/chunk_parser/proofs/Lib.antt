@@ -1,4 +1,2 @@
-pub mod Walk
-pub mod Fault
 pub mod Table
 pub mod Accepted

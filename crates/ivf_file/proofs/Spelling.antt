@@ -10,9 +10,7 @@ use lib.Dec.{eqb}
 use lib.ListN.{length, getD, take, drop, length-append, length-drop, take-append-drop}
 use lib.Seq.{drop-drop, length-take-le}
 use borrow.Author.Tests.{eqb-true, eqb-false}
-use Rattle.base_little.specs.Little as Little
 use Rattle.base_little.specs.Little.{little, spellLittle}
-use Rattle.chunk_index.specs.Spelling as Spelling
 use Rattle.ivf_file.specs.declared.IvfHeader.{IvfHeader}
 use Rattle.ivf_file.specs.declared.Record.{Record}
 use Rattle.ivf_file.specs.declared.FileRead.the-variants.{Header}
@@ -46,7 +44,7 @@ headerValues : List ℕ → FileValues
 headerValues f = record { version = little f 4 2; header = fileHeaderOf f; unused = little f 28 4 }
 
 values-spelt : (v : FileValues) → FileRanged v → (b : List ℕ) → headerValues (spellHeader v ++ b) ≡ v
-unfolding headerValues fileHeaderOf spellHeader Spelling.spellLittle Little.little
+unfolding headerValues fileHeaderOf spellHeader spellLittle little
 values-spelt v r b =
     let version : little (spellHeader v ++ b) 4 2 ≡ v .version = omega (arith, r .version) in
     let width : little (spellHeader v ++ b) 12 2 ≡ v .header .width = omega (arith, r .width) in
@@ -59,7 +57,7 @@ values-spelt v r b =
 
 -- a header that is spelled is read
 header-spelt : (v : FileValues) → FileRanged v → (b : List ℕ) → fileOf (spellHeader v ++ b) ≡ Header (v .header)
-unfolding headerValues spellHeader Spelling.spellLittle Little.little
+unfolding headerValues spellHeader spellLittle little
 header-spelt v r b =
     let e : headerValues (spellHeader v ++ b) ≡ v = values-spelt v r b in
     file-exactly (spellHeader v ++ b) (Header (v .header)) .1

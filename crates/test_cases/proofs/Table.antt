@@ -4,7 +4,7 @@ use mathlib.Core.Path.{refl}
 use Rattle.base_bits.specs.Bit as Bit
 use Rattle.base_bits.specs.Many as Many
 use Rattle.base_bits.specs.Reader as Reader
-use Rattle.base_slots.specs.Slots as Slots
+use Rattle.base_shared.specs.Lists as Lists
 use Rattle.grammar_tables.specs.Tables as Tables
 use Rattle.grammar_tables.specs.Header as Header
 use Rattle.grammar_settings.specs.Settings as Settings
@@ -14,8 +14,8 @@ use Rattle.header_parser.specs.Answer as Answer
 use Rattle.base_little.specs.Little as Little
 use Rattle.chunk_index.specs.Layout as Layout
 use Rattle.chunk_index.specs.Split as Split
-use Rattle.chunk_parser.specs.Frames as Frames
-use Rattle.chunk_parser.specs.Answer as Chunk
+use Rattle.chunk_judged.specs.Frames as Frames
+use Rattle.chunk_judged.specs.Answer as Chunk
 use Rattle.segment_clamp.specs.Clamp as Clamp
 use Rattle.segment_features.specs.Features as Features
 use Rattle.segment_levels.specs.Levels as Levels
@@ -27,6 +27,6 @@ unfolding
     Reader.must Reader.groupIf Reader.fieldIf Tables.colorFields Tables.sizeFields Tables.renderFields Tables.refFields Tables.refsFields Tables.foundFields Tables.foundAt Tables.deltaFields Tables.loopFilterFields Tables.quantizerFields Tables.probFields Tables.probsFields Tables.featureFields Tables.featuresFields Tables.segmentationFields Tables.runFields Lists.first Tables.least Tables.most Tables.tilesFields Header.sizeOf Header.frameFields Header.headerFields Settings.deltaValue Settings.loopFilterOf Settings.quantizerOf Settings.lossless Settings.segmentationOf Record.frameOf Record.headerOf Record.stateFrom Record.stateAfter Reading.readColor Reading.readSize Reading.readRender Reading.readRef Reading.readRefs Reading.readFound Reading.readDelta Reading.readLoopFilter Reading.readQuantizer Reading.readSegmentation Reading.readRun Reading.readTiles Reading.readSync Reading.readFrame Reading.readHeader Lists.each Answer.parsed
     Little.little Layout.announced Layout.cut Layout.indexed Layout.layoutOf Layout.start
     Split.filled Split.firstPast Split.placed Split.splitOf Frames.stateBefore Frames.frameRead
-    Frames.firstFault Chunk.chunkOf Features.featuresOf Features.featuresIn Levels.levelsOf Levels.levelsAt
+    Frames.firstFault Chunk.judgedChunk Features.featuresOf Features.featuresIn Levels.levelsOf Levels.levelsAt
     Levels.deltaGrid Levels.pairOf Levels.segmentLevel Levels.levelMoved Levels.scaled Clamp.clampTo framesFrom
 all-hold = (refl, (refl, (refl, (refl, (refl, (refl, (refl, (refl, (refl, ((refl, refl), ((refl, refl), ((refl, refl), ((refl, refl), ((refl, refl, refl), ((refl, refl, refl), tt)))))))))))))))

@@ -1,6 +1,7 @@
 use mathlib.Core.Path.{_∙_}
 use Rattle.chunk_index.specs.declared.Answer.the-variants.{Empty, Short, Past}
-use Rattle.chunk_parser.proofs.Walk.{by-split}
+use Rattle.header_parser.specs.Answer.{parsed}
+use Rattle.chunk_judged.proofs.Walk.{by-split}
 use borrow.Author.Needs.{needs}
 use Rattle.chunk_parser.proofs.parse_chunk.Statement.{statement}
 use Rattle.chunk_parser.proofs.parse_chunk.Tie as tie
@@ -36,13 +37,13 @@ returns : tie.Need-returns
 returns c = search needs
 
 returns-2 : tie.Need-returns-2
-returns-2 c = c .refused .ensures ∙ by-split _ _ Empty (c .before .before .before .split-chunk .ensures) (search needs)
+returns-2 c = c .refused .ensures ∙ by-split parsed _ _ Empty (c .before .before .before .split-chunk .ensures) (search needs)
 
 returns-3 : tie.Need-returns-3
-returns-3 c = c .refused2 .ensures ∙ by-split _ _ Short (c .before .before .before .split-chunk .ensures) (search needs)
+returns-3 c = c .refused2 .ensures ∙ by-split parsed _ _ Short (c .before .before .before .split-chunk .ensures) (search needs)
 
 returns-4 : tie.Need-returns-4
-returns-4 c = c .refused3 .ensures ∙ by-split _ _ (Past _) (c .before .before .before .before .split-chunk .ensures) (search needs)
+returns-4 c = c .refused3 .ensures ∙ by-split parsed _ _ (Past _) (c .before .before .before .before .split-chunk .ensures) (search needs)
 
 pub parse-chunk-spec : {M : Type 1} → statement M
 parse-chunk-spec =

@@ -2,18 +2,19 @@ use borrow.Author.Needs.{needs}
 use Prim.Native.Nat.{_-_}
 use mathlib.Core.Path.{_∙_}
 use native.Mathlib.Omega.{arith}
-use Rattle.chunk_parser.proofs.Walk.{Walked, walked-none, inside, walked-more, walked-fault, walked-all}
+use Rattle.header_parser.specs.Answer.{parsed}
+use Rattle.chunk_judged.proofs.Walk.{Walked, walked-none, inside, walked-more, walked-fault, walked-all}
 use Rattle.chunk_parser.proofs.parse_frames.Statement.{statement}
 use Rattle.chunk_parser.proofs.parse_frames.Tie as tie
 
 abbrev Inv-loop : tie.InvT-loop
-Inv-loop chunk count st at size headers₀ state₀ i₀ headers state i = Walked chunk state₀ count at size i headers state
+Inv-loop chunk count st at size headers₀ state₀ i₀ headers state i = Walked parsed chunk state₀ count at size i headers state
 
 abbrev μ-loop : tie.MeasureT-loop
 μ-loop chunk count st at size headers₀ state₀ i₀ headers state i = count - i
 
 loop-holds : tie.Need-loop-holds Inv-loop μ-loop
-loop-holds c = walked-none _ (c .before .before .before .pre .0) (c .before .before .before .pre .1)
+loop-holds c = walked-none parsed _ (c .before .before .before .pre .0) (c .before .before .before .pre .1)
 
 mul-from : tie.Need-mul-from Inv-loop μ-loop
 mul-from c = search needs
@@ -28,7 +29,7 @@ array-read-to : tie.Need-array-read-to Inv-loop μ-loop
 array-read-to c = search needs
 
 add-to : tie.Need-add-to Inv-loop μ-loop
-add-to c = search (needs, inside (c .before .loop .inv) (c .loop-test .taken))
+add-to c = search (needs, inside parsed (c .before .loop .inv) (c .loop-test .taken))
 
 sub-parse-frame-header : tie.Need-sub-parse-frame-header Inv-loop μ-loop
 sub-parse-frame-header c = search needs
@@ -37,7 +38,7 @@ part-parse-frame-header-start : tie.Need-part-parse-frame-header-start Inv-loop 
 part-parse-frame-header-start c = search needs
 
 part-parse-frame-header-end : tie.Need-part-parse-frame-header-end Inv-loop μ-loop
-part-parse-frame-header-end c = search (needs, inside (c .before .loop .inv) (c .loop-test .taken))
+part-parse-frame-header-end c = search (needs, inside parsed (c .before .loop .inv) (c .loop-test .taken))
 
 parse-frame-header-requires : tie.Need-parse-frame-header-requires Inv-loop μ-loop
 parse-frame-header-requires c κs = search needs
@@ -51,7 +52,7 @@ refused-requires c κs = search needs
 returns : tie.Need-returns Inv-loop μ-loop
 returns c =
     let r = c .before .before .before .before .parse-frame-header in
-    c .refused .ensures ∙ walked-fault (c .before .before .before .before .before .before .before .loop .inv) (c .before .before .before .before .before .before .loop-test .taken) _ (r .ensures) _ (search needs)
+    c .refused .ensures ∙ walked-fault parsed (c .before .before .before .before .before .before .before .loop .inv) (c .before .before .before .before .before .before .loop-test .taken) _ (r .ensures) _ (search needs)
 
 enum-told : tie.Need-enum-told Inv-loop μ-loop
 enum-told c = search needs
@@ -71,10 +72,10 @@ loop-less c = search needs
 loop-again : tie.Need-loop-again Inv-loop μ-loop
 loop-again c =
     let r = c .before .before .before .before .parse-frame-header in
-    walked-more (c .before .before .before .before .before .before .before .loop .inv) (c .before .before .before .before .before .before .loop-test .taken) _ (r .ensures) (search needs)
+    walked-more parsed (c .before .before .before .before .before .before .before .loop .inv) (c .before .before .before .before .before .before .loop-test .taken) _ (r .ensures) (search needs)
 
 returns-2 : tie.Need-returns-2 Inv-loop μ-loop
-returns-2 c = walked-all (c .before .loop .inv) (omega arith)
+returns-2 c = walked-all parsed (c .before .loop .inv) (omega arith)
 
 pub parse-frames-spec : {M : Type 1} → statement M
 parse-frames-spec =

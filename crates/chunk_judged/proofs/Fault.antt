@@ -9,7 +9,7 @@ use Rattle.base_bits.specs.declared.Refusal.{Refusal}
 use Rattle.base_shared.proofs.Order.{below}
 use Rattle.header_verdict.specs.declared.Verdict.{Verdict}
 use Rattle.header_verdict.specs.declared.Verdict.the-variants.{Accepted, Refused}
-use Rattle.chunk_parser.specs.Frames.{FaultFound, none, fault, faultAt, firstFault}
+use Rattle.chunk_judged.specs.Frames.{FaultFound, none, fault, faultAt, firstFault}
 
 -- the verdicts from i on, up to j, are accepted
 abbrev pub Good : (ℕ → Verdict) → ℕ → ℕ → Type 0

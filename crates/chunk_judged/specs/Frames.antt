@@ -1,4 +1,4 @@
--- The frames of a chunk, each under the state that the frames before it left: docs/RULES.md, "Numbers a caller can get back".
+-- The frames of a chunk, each under the state that the frames before it left: docs/RULES.md, "Numbers a caller can get back". Who judges a frame is left open.
 -- Assumes nothing.
 use Prim.Native.Nat.{ℕ, zero, suc, _+_}
 use mathlib.Core.List.{List}
@@ -8,21 +8,25 @@ use Rattle.base_types.specs.declared.state.ReaderState.{ReaderState}
 use Rattle.header_verdict.specs.declared.Verdict.{Verdict}
 use Rattle.header_verdict.specs.declared.Verdict.the-variants.{Accepted, Refused}
 use Rattle.header_parser.specs.declared.HeaderRead.{HeaderRead}
-use Rattle.header_parser.specs.Answer.{parsed}
 use Rattle.chunk_index.specs.declared.Split.{Split}
+
+-- what is answered to a frame's bytes under a state
+abbrev pub Judge : Type 0
+Judge = List ℕ → ReaderState → HeaderRead
 
 -- the bytes of frame i, where it is placed
 abbrev pub frameBytes : List ℕ → Split → ℕ → List ℕ
 frameBytes s p i = take (getD (p .size) i 0) (drop (getD (p .at) i 0) s)
 
--- the state before frame i, which is the one after the i frames before it
-unfoldable pub stateBefore : List ℕ → Split → ReaderState → ℕ → ReaderState
-stateBefore s p st zero = st
-stateBefore s p st (suc i) = parsed (frameBytes s p i) (stateBefore s p st i) .state
+module _ (judge : Judge) where
+  -- the state before frame i, which is the one after the i frames before it
+  unfoldable pub stateBefore : List ℕ → Split → ReaderState → ℕ → ReaderState
+  stateBefore s p st zero = st
+  stateBefore s p st (suc i) = judge (frameBytes s p i) (stateBefore s p st i) .state
 
--- what the header of frame i is answered
-unfoldable pub frameRead : List ℕ → Split → ReaderState → ℕ → HeaderRead
-frameRead s p st i = parsed (frameBytes s p i) (stateBefore s p st i)
+  -- what the header of frame i is answered
+  unfoldable pub frameRead : List ℕ → Split → ReaderState → ℕ → HeaderRead
+  frameRead s p st i = judge (frameBytes s p i) (stateBefore s p st i)
 
 -- whether some header is refused: the first that is, and why
 pub data FaultFound : Type 0 where

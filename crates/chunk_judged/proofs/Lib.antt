@@ -1,0 +1,4 @@
+pub mod Fault
+pub mod Walk
+pub mod Table
+pub mod Accepted
