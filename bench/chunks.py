@@ -12,7 +12,7 @@ import expect
 from inputs import F, I, K, recordings
 from program import FRESH, record
 
-# Document 01's example chunks: the name, the chunks before and the chunk.
+# docs/RULES.md's example chunks: the name, the chunks before and the chunk.
 EXAMPLES = (("K", [], K), ("I after K", [K], I), ("F", [], F), ("K cut to 13 bytes", [], K[:13]))
 
 PARSES, STEPS = b"\4", b"\5"

@@ -13,7 +13,7 @@ STEP, STAY = b"\0", b"\2"
 
 
 def header(level, deltas, features, depth="Depth8", segments=8):
-    """Base 60 and the deltas of a reset, as in document 01's K; the features named are active in the first segments."""
+    """Base 60 and the deltas of a reset, as in docs/RULES.md's K; the features named are active in the first segments."""
     h = expect.default_header()
     h.bit_depth = expect.Name(depth)
     h.quant.base_q_idx = 60

@@ -24,7 +24,7 @@ BUILT = os.path.join(ROOT, "target", "bench")
 UNPACKED = os.path.join(ROOT, "target", "perf")
 X86 = platform.machine() == "x86_64"
 SOURCES = ("src/bitstream_utils.rs", "src/codec/vp9/lookups.rs", "src/codec/vp9/parser.rs")
-# As the judge is built: document 01's oracle has no overflow checks.
+# As the judge is built: docs/RULES.md's oracle has no overflow checks.
 OPTIONS = ("--edition", "2021", "-O", "-C", "overflow-checks=off")
 
 

@@ -1,12 +1,12 @@
 #!/usr/bin/env python3
-"""Compares the calls that no other program makes with the Rust and with document 01: the enums' try_from, choose_picture and read_record.
+"""Compares the calls that no other program makes with the Rust and with docs/RULES.md: the enums' try_from, choose_picture and read_record.
 
 Usage: compare.py [--program PROGRAM] [--judge JUDGE] [--write DIR]
 
 PROGRAM is the proved program calls (default target/bin/calls, made by `rt check calls`); crates/test_calls/src/main.rt
 says what it reads. JUDGE is our driver over the Rust (tests/judge), which has try_from and the records of a
-whole IVF file; without it those are held to document 01 alone. The same run makes the same calls.
---write DIR makes crates/test_calls' stdin and stdout, a few of the calls with document 01's answers.
+whole IVF file; without it those are held to docs/RULES.md alone. The same run makes the same calls.
+--write DIR makes crates/test_calls' stdin and stdout, a few of the calls with docs/RULES.md's answers.
 
 Exit 0 if all agrees, 1 on a difference."""
 
@@ -31,7 +31,7 @@ LARGE = (2 ** 31, 2 ** 63, 2 ** 64 - 1)
 
 
 class Call:
-    """What the program is asked, and document 01's answer."""
+    """What the program is asked, and docs/RULES.md's answer."""
 
     def __init__(self, asked, answer):
         self.asked, self.answer = asked, answer
@@ -121,12 +121,12 @@ def differences(name, calls, program_words, show=3):
     assert len(got) == len(calls), f"{name}: {len(calls)} calls, {len(got)} lines"
     wrong = [(call, line) for call, line in zip(calls, got) if line != b" " + call.answer]
     for call, line in wrong[:show]:
-        print(f"{name}: asked {call.asked[:64].hex()}: program{line.decode()}, document 01 {call.answer.decode()}")
+        print(f"{name}: asked {call.asked[:64].hex()}: program{line.decode()}, docs/RULES.md {call.answer.decode()}")
     return len(wrong)
 
 
 def rust_differences(judge, numbers, files):
-    """Where document 01's answers, which the program's are held to, aren't the Rust's."""
+    """Where docs/RULES.md's answers, which the program's are held to, aren't the Rust's."""
     words = run([judge, "--numbers"], "".join(f"{n}\n" for n in NUMBERS).encode()).splitlines()
     wrong = sum(call.answer != line for call, line in zip(numbers, words, strict=True))
     for file, calls in files:
@@ -166,10 +166,10 @@ def main():
     read = [call for _, calls in files for call in calls]
     groups = {"try_from": numbers, "choose_picture": list(choices(random.Random(7))), "read_record": read + list(damaged())}
     wrong = sum(differences(name, calls, words) for name, calls in groups.items())
-    held = "document 01"
+    held = "docs/RULES.md"
     if given.judge:
         wrong += rust_differences(given.judge, numbers, files)
-        held = f"document 01, try_from and the records of {len(files)} whole files with the Rust too"
+        held = f"docs/RULES.md, try_from and the records of {len(files)} whole files with the Rust too"
     counts = ", ".join(f"{len(calls)} of {name}" for name, calls in groups.items())
     print(f"calls: {counts}; compared with {held}: {wrong} differences")
     return 1 if wrong else 0

@@ -1,12 +1,12 @@
 #!/usr/bin/env python3
-"""Runs series.hex through the judge and compares it with document 01.
+"""Runs series.hex through the judge and compares it with docs/RULES.md.
 
 Usage: check.py [--judge PROGRAM] [--src SRC_DIR]
 Without --judge it is built by tests/judge/build from SRC_DIR, the folder of
 the crate's sources (default ../shared/docs/src beside the repository).
 
-On document 01's domain for runs every field must agree. Outside of it what
-the Rust does is printed beside what document 01 says. Exit 0 if all agrees,
+On docs/RULES.md's domain for runs every field must agree. Outside of it what
+the Rust does is printed beside what docs/RULES.md says. Exit 0 if all agrees,
 1 if not, 2 if something is missing.
 """
 
@@ -57,7 +57,7 @@ def read_answers(output):
 
 
 def plain_state(state):
-    """The state without the four block counts, which document 01 doesn't hold."""
+    """The state without the four block counts, which docs/RULES.md doesn't hold."""
     return re.sub(r"mi_cols: .*?, lf:", "lf:", state)
 
 
@@ -96,7 +96,7 @@ def path_text(path):
 def field_differences(rust, document):
     """The fields in which two Debug texts differ."""
     one, two = flat(rust), flat(document)
-    return [f"{path[1:]} {one.get(path)} (document 01: {two.get(path)})"
+    return [f"{path[1:]} {one.get(path)} (docs/RULES.md: {two.get(path)})"
             for path in sorted(set(one) | set(two)) if one.get(path) != two.get(path)]
 
 
@@ -107,19 +107,19 @@ def line_differences(rust_lines, document_lines):
             continue
         name = re.match(r"\s*(seg \d|frame \d|\w+)", rust).group(1)
         if rust.startswith("frame"):
-            found.append(f"{rust} (document 01: {document})")
+            found.append(f"{rust} (docs/RULES.md: {document})")
         else:
             found += [f"{name}: {d}" for d in field_differences(rust, document)]
     return found
 
 
 def compare(answer, head, frames, state):
-    """All differences between an answer of the judge and document 01."""
+    """All differences between an answer of the judge and docs/RULES.md."""
     if answer.accepted != head.startswith("accepted"):
-        return [f"Rust: {answer.head}; document 01: {head}"]
+        return [f"Rust: {answer.head}; docs/RULES.md: {head}"]
     found = []
     if answer.accepted and answer.head != head:
-        found.append(f"Rust: {answer.head}; document 01: {head}")
+        found.append(f"Rust: {answer.head}; docs/RULES.md: {head}")
     for rust, document in zip(answer.frames, frames):
         found += line_differences(rust, document)
     rust_state = plain_state(answer.state)
@@ -138,7 +138,7 @@ class Totals:
 def print_outside(number, place, series, chunk, answer, head, found):
     print(f"outside: series {number} chunk {place} ({chunk.outside}): {series.title}")
     print(f"  bytes {chunk.data.hex().upper()}")
-    print(f"  Rust: {answer.head}; document 01: {head}")
+    print(f"  Rust: {answer.head}; docs/RULES.md: {head}")
     for difference in found:
         if not difference.startswith("Rust:"):
             print(f"  {difference}")
@@ -170,7 +170,7 @@ def check_series(number, series, answers, tables, totals):
 
 
 def print_totals(t):
-    print(f"{t.series} series {t.chunks} chunks: document 01 accepts {t.accepted}, "
+    print(f"{t.series} series {t.chunks} chunks: docs/RULES.md accepts {t.accepted}, "
           f"refuses {t.refused}; the Rust accepts {t.rust_accepted}, refuses "
           f"{t.chunks - t.rust_accepted}")
     print(f"inside the domain: {t.inside} chunks, {t.wrong} that differ")
@@ -187,7 +187,7 @@ def build_judge(src):
 
 
 def main():
-    options = argparse.ArgumentParser(description="compare the judge with document 01")
+    options = argparse.ArgumentParser(description="compare the judge with docs/RULES.md")
     options.add_argument("--judge", help="the judge, if it is built already")
     options.add_argument("--src", default=os.path.join(ROOT, "..", "shared", "docs", "src"),
                          help="the folder of the crate's sources")

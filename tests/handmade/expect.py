@@ -1,5 +1,5 @@
-"""What document 01 says of a chunk: a model over field values and the
-remembered state. Written from document 01 and not made by running the Rust;
+"""What docs/RULES.md says of a chunk: a model over field values and the
+remembered state. Written from docs/RULES.md and not made by running the Rust;
 names and order in the records are the Rust's, so that the two can be compared.
 """
 
@@ -116,7 +116,7 @@ class State:
 
     def debug(self):
         """The Rust's Parser record without its four block counts, which
-        document 01's state doesn't hold."""
+        docs/RULES.md's state doesn't hold."""
         slots = [Record("FrameSize", width=w, height=h) for w, h in self.slots]
         return debug(Record(
             "Parser", bit_depth=self.bit_depth, subsampling_x=self.subsampling_x,
@@ -381,7 +381,7 @@ def segment_step(segments, h, tables):
 
 
 class Refused(Exception):
-    """Document 01's number and the frame it comes with."""
+    """docs/RULES.md's number and the frame it comes with."""
 
     def __init__(self, number, frame=0):
         super().__init__(f"refused {number} frame {frame}")
@@ -502,7 +502,7 @@ TABLES = {"DC_QLOOKUP": ("dc", "Depth8"), "AC_QLOOKUP": ("ac", "Depth8"),
 
 
 def read_tables(src):
-    """The six tables, taken from the text of lookups.rs as document 01 says."""
+    """The six tables, taken from the text of lookups.rs as docs/RULES.md says."""
     with open(os.path.join(src, "src/codec/vp9/lookups.rs")) as file:
         source = file.read()
     tables = {}
@@ -513,7 +513,7 @@ def read_tables(src):
 
 
 class Model:
-    """Document 01 along a series, in the lines of the judge."""
+    """docs/RULES.md along a series, in the lines of the judge."""
 
     def __init__(self, tables):
         self.tables = tables

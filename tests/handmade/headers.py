@@ -1,7 +1,7 @@
 """The VP9 uncompressed header as fields: one walk over the syntax, used to
 write field values down and to read them back. Also chunks with an index.
 
-The walk follows the syntax tables of the VP9 specification and document 01.
+The walk follows the syntax tables of the VP9 specification and docs/RULES.md.
 It asks no conformance: reserved bits may be 1, a sign may stand on a 0.
 """
 

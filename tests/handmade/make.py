@@ -2,7 +2,7 @@
 """Writes series.hex: hand-made headers for what encoders don't write.
 
 Each series starts from a fresh state. The same run of this file gives the
-same bytes; check.py compares the judge with document 01 on them.
+same bytes; check.py compares the judge with docs/RULES.md on them.
 """
 
 import os
@@ -141,7 +141,7 @@ class Series:
         self.title = title
         self.chunks = []
         self.state = expect.State()
-        # Set once the Rust's state may differ from document 01's.
+        # Set once the Rust's state may differ from docs/RULES.md's.
         self.apart = False
 
     def write(self, specs):
@@ -156,7 +156,7 @@ class Series:
         return frames
 
     def raw(self, data, note="", want=None):
-        """Adds a chunk; `want` is the number that document 01 refuses it with."""
+        """Adds a chunk; `want` is the number that docs/RULES.md refuses it with."""
         reason = expect.outside(data, self.state)
         got = refusal = None
         try:
@@ -191,27 +191,27 @@ def series(title):
     return SERIES[-1]
 
 
-# What document 01 names.
+# What docs/RULES.md names.
 
 def document_numbers():
-    s = series("document 01: K, K cut to 13 bytes, I")
+    s = series("docs/RULES.md: K, K cut to 13 bytes, I")
     s.add(key(), note="K")
     assert s.chunks[-1].data == K
     s.raw(K[:13], "K cut to 13 bytes", 6)
     s.add(inter(), note="I")
     assert s.chunks[-1].data == I
-    s = series("document 01: I from fresh, 0x0")
+    s = series("docs/RULES.md: I from fresh, 0x0")
     s.add(inter(), note="I")
-    s = series("document 01: F, two frames")
+    s = series("docs/RULES.md: F, two frames")
     s.add(key(), show(0), note="F")
     assert s.chunks[-1].data == F
     s.raw(b"", "a record of length 0", 1)
-    s = series("document 01: C1, then 00 00 C0")
+    s = series("docs/RULES.md: C1, then 00 00 C0")
     s.raw(bytes.fromhex("C1"), "", 2)
     s.raw(bytes.fromhex("0000C0"), "", 4)
-    s = series("document 01: C0 01 C0")
+    s = series("docs/RULES.md: C0 01 C0")
     s.raw(bytes.fromhex("C001C0"), "", 3)
-    s = series("document 01: C0 00 C0")
+    s = series("docs/RULES.md: C0 00 C0")
     s.raw(bytes.fromhex("C000C0"), "", 6)
 
 
@@ -732,8 +732,8 @@ def build():
 def text(all_series):
     """The series in the judge's hex form."""
     lines = ["# Hand-made VP9 headers; made by make.py, read by tests/judge.",
-             "# '# refused N frame F' is document 01's answer to the next chunk; '# outside'",
-             "# marks the next chunk as outside document 01's domain for runs."]
+             "# '# refused N frame F' is docs/RULES.md's answer to the next chunk; '# outside'",
+             "# marks the next chunk as outside docs/RULES.md's domain for runs."]
     for number, s in enumerate(all_series):
         lines += ["#", f"# series {number}: {s.title}", "fresh"]
         for chunk in s.chunks:

@@ -1,5 +1,5 @@
 #!/usr/bin/env python3
-"""Says what document 01 says of a hex series, in the judge's form.
+"""Says what docs/RULES.md says of a hex series, in the judge's form.
 
 Usage: say.py [--src SRC_DIR] [FILE]      FILE as for `judge --hex`
 A refused chunk prints `chunk N refused NUMBER frame FRAME`. The state line
@@ -36,7 +36,7 @@ def say(lines, tables):
 
 
 def main():
-    options = argparse.ArgumentParser(description="what document 01 says of a hex series")
+    options = argparse.ArgumentParser(description="what docs/RULES.md says of a hex series")
     options.add_argument("--src", default=os.path.join(ROOT, "..", "shared", "docs", "src"),
                          help="the folder of the crate's sources, for the six tables")
     options.add_argument("file", nargs="?", default="-")

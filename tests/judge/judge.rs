@@ -507,7 +507,7 @@ impl StateDigest {
 
     fn name(&mut self) {
         self.signed = matches!(self.word.as_str(), "ref_deltas" | "mode_deltas" | "feature_data");
-        // The block counts, which document 01's state doesn't hold.
+        // The block counts, which docs/RULES.md's state doesn't hold.
         self.skipped = matches!(self.word.as_str(), "mi_cols" | "mi_rows" | "sb64_cols" | "sb64_rows");
         self.word.clear();
     }

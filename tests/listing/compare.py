@@ -1,11 +1,11 @@
 #!/usr/bin/env python3
-"""Compares the listing program with a model of document 01, the Rust and ffmpeg.
+"""Compares the listing program with a model of docs/RULES.md, the Rust and ffmpeg.
 
 usage: compare.py [--judge JUDGE]
 
-Runs target/bin/list (made by `rt check list`) on document 01's example, on every recording of
+Runs target/bin/list (made by `rt check list`) on docs/RULES.md's example, on every recording of
 tests/recordings and on damaged files, and compares its lines with the model below, which is written
-from document 01 over tests/handmade/expect.py. The recordings are also held to ffmpeg's kept traces.
+from docs/RULES.md over tests/handmade/expect.py. The recordings are also held to ffmpeg's kept traces.
 Then bin/list: its statuses and its help. With --judge the recordings are held to the Rust, and nothing else is run.
 
 Exit 0 if all agrees, 1 on a difference."""
@@ -34,7 +34,7 @@ K = bytes.fromhex("824983422003F003F40007800005")
 I = bytes.fromhex("860040026000 3C000028")
 SHOW = b"\x88"
 F = K + SHOW + bytes.fromhex("C10E01C1")
-# Document 01, "IVF, picture choice, listing": superframe F, then a record of length 0.
+# docs/RULES.md, "IVF, picture choice, listing": superframe F, then a record of length 0.
 EXAMPLE = """chunk frame kind at size width height refresh hdr
 0 0 key 0 14 64 64 255 14
 0 1 show 14 1 0 0 0 0
@@ -43,7 +43,7 @@ EXAMPLE = """chunk frame kind at size width height refresh hdr
 """
 
 
-# Document 01's listing, as a model.
+# docs/RULES.md's listing, as a model.
 
 def le(data, at, n):
     return int.from_bytes(data[at:at + n], "little")
@@ -202,7 +202,7 @@ def example():
     tally = Tally()
     tally.same("the example", EXAMPLE, listing(ivf(F, b"")))
     tally.same("the model's example", EXAMPLE, model(ivf(F, b"")))
-    return tally.report("document 01's example")
+    return tally.report("docs/RULES.md's example")
 
 
 # The recordings.

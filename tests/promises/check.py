@@ -30,8 +30,8 @@ def edits():
 
 
 def sections(text):
-    """The page's sections: the words of the heading, and the lines."""
-    for part in re.split(r"^## ", text, flags=re.M)[1:]:
+    """The page's sections, of layers (##) and of crates (###): the words of the heading, and the lines."""
+    for part in re.split(r"^###? ", text, flags=re.M)[1:]:
         head, *lines = part.split("\n")
         yield re.split(r", ", head), lines
 
@@ -51,6 +51,7 @@ def check(text, known, programs):
         for line in lines:
             found = set(named(line, crates, known))
             seen |= found
+            wrong += [f"{crate}/{name}: no such edit" for crate, name in sorted(found) if crate not in known[name]]
             if line.startswith("| `"):
                 wrong += check_row(line, found, crates, known, programs)
     wrong += [f"{crate}/{name}: not named" for name in known for crate in known[name] if (crate, name) not in seen]

@@ -1,5 +1,5 @@
 #!/usr/bin/env python3
-"""Compares the proved reader of chunks with the Rust and with a model of document 01.
+"""Compares the proved reader of chunks with the Rust and with a model of docs/RULES.md.
 
 Usage: compare.py [--program PROGRAM] [--judge JUDGE] [--src SRC_DIR] [--tools DIR]
                   [--bent N] [--every N] [--show N]
@@ -33,7 +33,7 @@ import expect
 from check import Answer, field_differences, plain_state
 
 
-# What document 01 says, as the program prints it, but for the chunk's number.
+# What docs/RULES.md says, as the program prints it, but for the chunk's number.
 
 def state_line(text):
     return "  state " + text.replace("Parser {", "ReaderState {", 1)
@@ -282,7 +282,7 @@ def differences(got, wanted, who):
     found = []
     for mine, other in zip(got, wanted):
         if mine != other:
-            found += [d.replace("document 01:", f"{who}:") for d in field_differences(mine, other)] \
+            found += [d.replace("docs/RULES.md:", f"{who}:") for d in field_differences(mine, other)] \
                 or [f"program: {mine}", f"{who}: {other}"]
     return found
 
@@ -309,11 +309,11 @@ class Comparison:
 
     def found(self, question, got, answer, judged):
         wanted = self.numbered(question.lines)
-        found = differences(got, wanted, "document 01") if got != wanted else []
+        found = differences(got, wanted, "docs/RULES.md") if got != wanted else []
         if not judged:
             return found
         if answer.accepted == bool(question.refusal):
-            return found + [f"the Rust: {answer.head}; document 01: {question.lines[0]}"]
+            return found + [f"the Rust: {answer.head}; docs/RULES.md: {question.lines[0]}"]
         wanted = self.numbered(rust_lines(question, answer))
         return found + (differences(got, wanted, "the Rust") if got != wanted else [])
 

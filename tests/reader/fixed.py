@@ -73,7 +73,7 @@ def all_series():
     return chosen + inputs.bent_series(chosen, 1)
 
 
-# What document 01 says of them, and the Rust.
+# What docs/RULES.md says of them, and the Rust.
 
 class Asked:
     """A chunk, the model's refusal of it (None where it is accepted) and the state after."""
@@ -88,7 +88,7 @@ class Asked:
 
 
 def on_the_domain(chunks):
-    """The chunks of a series that lie on document 01's domain; the others aren't put."""
+    """The chunks of a series that lie on docs/RULES.md's domain; the others aren't put."""
     state, kept = expect.State(), []
     for chunk in chunks:
         asked = Asked(chunk, state)
@@ -109,7 +109,7 @@ def answer(asked, line):
 
 
 def counted():
-    """The records for benchmarks, on document 01's accepted example chunks."""
+    """The records for benchmarks, on docs/RULES.md's accepted example chunks."""
     return [program.FRESH + b"".join(map(program.record, before)) + program.counted(kind, count, chunk)
             for _, before, chunk in inputs.EXAMPLES if not Asked(chunk, expect.State()).refusal
             for kind in (4, 5) for count in (0, 1, 3)]

@@ -7,7 +7,7 @@ import random
 ROOT = os.path.abspath(os.path.join(os.path.dirname(os.path.abspath(__file__)), "..", ".."))
 RECORDINGS = os.path.join(ROOT, "tests", "recordings")
 
-# Document 01's example chunks, each with the chunks before it.
+# docs/RULES.md's example chunks, each with the chunks before it.
 K = bytes.fromhex("824983422003F003F40007800005")
 I = bytes.fromhex("8600400260003C000028")
 F = K + bytes.fromhex("88C10E01C1")

@@ -7,7 +7,7 @@ PROGRAM is the proved program read_segments (default target/bin/read_segments, m
 `rt check read_segments`), ORIGINAL our driver over the Rust (default
 target/segments/original, made by tests/segments/build). Both get the same cases and
 must print the same records, and those must be the model's (tests/handmade/expect.py,
-from document 01's "Eight segment records"). Then PROGRAM is asked for the four scales of each segment
+from docs/RULES.md's "Eight segment records"). Then PROGRAM is asked for the four scales of each segment
 one by one (get_dc_quant, get_ac_quant), which must be the Rust's. The same run makes the same cases.
 --write FILE keeps the cases.
 

@@ -44,7 +44,7 @@ spell-at (suc n) v i h =
 bits-at : (s : List ℕ) (p : ℕ) → p < 8 * length s → getD (bitsOf s) p 0 ≡ bitAt s p
 unfolding bitsOf bitAt
 bits-at [] p h = absurd (omega arith)
-bits-at (b ∷ s) p h = ⊎-elim (later (bits-at s (p - 8))) here (below 8 p)
+bits-at (b ∷ s) p h = ⊎-elim here (later (bits-at s (p - 8))) (below p 8)
   where
     here : p < 8 → getD (spell 8 b ++ bitsOf s) p 0 ≡ getD (b ∷ s) (p / 8) 0 / 2 ^ (7 - p % 8) % 2
     here l =

@@ -8,7 +8,7 @@ use mathlib.Core.List.{List}
 use native.Mathlib.Omega.{arith}
 use Rattle.base_bits.specs.declared.Refusal.{Refusal}
 use Rattle.base_bits.specs.Syntax.{Field, size}
-use Rattle.base_bits.specs.Reader.{Read, read, stopped, got, refused, bind, over, alter, Reader}
+use Rattle.base_bits.specs.Reader.{Read, read, stopped, got, refused, bind, over, alter, Reader, said}
 use Rattle.base_bits.specs.Law.{Any, Reads}
 use Rattle.base_bits.specs.Many.{Times, times, manyFields, many, folds}
 use Rattle.base_bits.proofs.Fields.{size-append, zeros, zeros-join}
@@ -43,13 +43,13 @@ module _ {A S : Type 0} (f : S → A → S) (i j : ℕ) (r : ℕ → Reader A) (
       go (read a n) h =
           let sa : st′ ≡ f st a = cc in
           let ne : e ≡ n = cc in
-          rw (sa, ne) (sym (tail (folds f (suc j) st) (λ vs q. read (a, vs) q) (folds f j (f st a)) (many (i + 1) j r s n) _ refl (λ vs q. refl)))
+          rw (sa, ne) (sym (tail said (folds f (suc j) st) (λ vs q. read (a, vs) q) (folds f j (f st a)) (many (i + 1) j r s n) _ refl (λ vs q. refl)))
       go (stopped x) h = let z : _≡_ {A = ℕ} 0 1 = cc in absurd (omega arith)
 
   -- a turn that does not
   pub turn-stop : (x : Refusal) → refused x ≡ over (f st) (r i s p) → refused x ≡ over (folds f (suc j) st) (many i (suc j) r s p)
   unfolding many folds
-  turn-stop x h = group-stop (f st) (r i s p) (folds f (suc j) st) (λ v n. bind (many (i + 1) j r s n) (λ vs q. read (v, vs) q)) x h
+  turn-stop x h = group-stop said (f st) (r i s p) (folds f (suc j) st) (λ v n. bind (many (i + 1) j r s n) (λ vs q. read (v, vs) q)) x h
 
 -- a loop that reads n of them and has done i: what is left to read, from p on with the state st, gives what the whole gives
 pub record Looped {A S : Type 0} (f : S → A → S) (n : ℕ) (r : ℕ → Reader A) (s : List ℕ) (p₀ : ℕ) (st₀ : S) (i p : ℕ) (st : S) : Type 0 where
@@ -69,10 +69,10 @@ module _ {A S : Type 0} {f : S → A → S} {n : ℕ} {r : ℕ → Reader A} {s 
     pub loop-stop : {x : Refusal} → i < n → refused x ≡ over (f st) (r i s p) → refused x ≡ over (λ v. g (folds f n st₀ v)) (many 0 n r s p₀)
     loop-stop {x} h t =
         let one : n - i ≡ suc (n - (i + 1)) = omega arith in
-        ap (alter g) (turn-stop f i (n - (i + 1)) r s p st x t ∙ sym (rw one at (l .same))) ∙ alter-over g (folds f n st₀) (many 0 n r s p₀)
+        ap (alter g) (turn-stop f i (n - (i + 1)) r s p st x t ∙ sym (rw one at (l .same))) ∙ alter-over said g (folds f n st₀) (many 0 n r s p₀)
 
     pub loop-end : n ≤ i → got (g st) p ≡ over (λ v. g (folds f n st₀ v)) (many 0 n r s p₀)
     unfolding many folds
     loop-end h =
         let none : n - i ≡ 0 = omega arith in
-        ap (alter g) (sym (rw none at (l .same))) ∙ alter-over g (folds f n st₀) (many 0 n r s p₀)
+        ap (alter g) (sym (rw none at (l .same))) ∙ alter-over said g (folds f n st₀) (many 0 n r s p₀)

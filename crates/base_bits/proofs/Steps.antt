@@ -65,7 +65,7 @@ pub field-lt : (x : Name) (s : List ℕ) (p n : ℕ) {v e : ℕ} → field x n s
 field-lt x s p n {v} {e} h = field-reads .sound s p v e h .1 .ranged .0 .0
 
 -- the same as steps along a reading, whatever is kept of a reason: `search reading` walks a chain of reads
-module _ {E A B : Type 0} {keep : Reason → E} (x : Name) (s : List ℕ) (p n : ℕ) (f : A → B) (k : ℕ → ℕ → Read A) (r : Bits) (e : r ≡ readBits s p n) where
+module _ {E A B : Type 0} (keep : Reason → E) (x : Name) (s : List ℕ) (p n : ℕ) (f : A → B) (k : ℕ → ℕ → Read A) (r : Bits) (e : r ≡ readBits s p n) where
   pub stop : OneOf (1 ∷ 2 ∷ []) (tagOf the-type r) → T (leb n 31) → (w : E) → w ≡ keep (cutAt x n s p) → refused w ≡ tell keep f (bind (field x n s p) k)
   stop h t w ew = rw (ew, short-read x s p n r e h t)
 
@@ -87,13 +87,13 @@ module _ {E A B : Type 0} {keep : Reason → E} (x : Name) (s : List ℕ) (p n :
     must-wrong v c w h t vm ew = rw (ew, value-read x s p n e h t, ne-eqb v m vm)
 
 -- a field that is there only if a test holds
-module _ {E A B : Type 0} {keep : Reason → E} (b c : Bool) (bc : b ≡ c) (x : Name) (s : List ℕ) (p n : ℕ) (f : A → B) (k : ℕ → ℕ → Read A) (r : Bits) (e : r ≡ readBitsIf b s p n) (t : T (leb n 31)) where
+module _ {E A B : Type 0} (keep : Reason → E) (b c : Bool) (bc : b ≡ c) (x : Name) (s : List ℕ) (p n : ℕ) (f : A → B) (k : ℕ → ℕ → Read A) (r : Bits) (e : r ≡ readBitsIf b s p n) (t : T (leb n 31)) where
   pub stop-if : OneOf (1 ∷ 2 ∷ []) (tagOf the-type r) → (w : E) → w ≡ keep (cutAt x n s p) → refused w ≡ tell keep f (bind (fieldIf c x n s p) k)
   unfolding readBitsIf fieldIf
   stop-if h w ew = go c (e ∙ rw bc)
     where
       go : (c : Bool) → r ≡ pick c (readBits s p n) (Value 0 (record { at = p })) → refused w ≡ tell keep f (bind (pick c (field x n) (λ s p. read 0 p) s p) k)
-      go true e = stop x s p n f k r e h t w ew
+      go true e = stop keep x s p n f k r e h t w ew
       go false e = absurd (⊎-elim (λ k. omega arith) (λ k. omega arith) (rw e at h))
 
   pub step-if : (v : ℕ) (d : Cursor) (y : Told E B) → r ≡ Value v d → y ≡ tell keep f (k v (d .at)) → y ≡ tell keep f (bind (fieldIf c x n s p) k)
@@ -101,7 +101,7 @@ module _ {E A B : Type 0} {keep : Reason → E} (b c : Bool) (bc : b ≡ c) (x :
   step-if v d y h m = go c (e ∙ rw bc)
     where
       go : (c : Bool) → r ≡ pick c (readBits s p n) (Value 0 (record { at = p })) → y ≡ tell keep f (bind (pick c (field x n) (λ s p. read 0 p) s p) k)
-      go true e = step x s p n f k r e v d y h t m
+      go true e = step keep x s p n f k r e v d y h t m
       go false e =
           let w : Value v d ≡ Value 0 (record { at = p }) = sym h ∙ e in
           let v0 : v ≡ 0 = cc in
@@ -126,7 +126,7 @@ module _ (s : List ℕ) (p n : ℕ) (r : Bits) (v : ℕ) (c : Cursor) (e : r ≡
   sum-fits m u = record { fits = omega (arith, value-lt, leb→le (2 ^ n + m) (2 ^ 32) u) }
 
 -- the steps of a group that calls another, whose answer is `tell keep g m`
-module _ {E A B C D : Type 0} {keep : Reason → E} (g : A → C) (m : Read A) (f : B → D) where
+module _ {E A B C D : Type 0} (keep : Reason → E) (g : A → C) (m : Read A) (f : B → D) where
   pub group-stop : (k : A → ℕ → Read B) (e : E) → refused e ≡ tell keep g m → refused e ≡ tell keep f (bind m k)
   group-stop k e h = go m h
     where
@@ -152,17 +152,17 @@ pub lacked : {A : Type 0} {x : Got A} (a : A) (n : Next) (u : Refusal) → viewN
 lacked a n u e h = rw h at e
 
 -- an answer whose value is altered
-pub alter-over : {E A B C : Type 0} {keep : Reason → E} (g : B → C) (f : A → B) (m : Read A) → alter g (tell keep f m) ≡ tell keep (λ a. g (f a)) m
-alter-over g f (read a p) = refl
-alter-over g f (stopped e) = refl
+pub alter-over : {E A B C : Type 0} (keep : Reason → E) (g : B → C) (f : A → B) (m : Read A) → alter g (tell keep f m) ≡ tell keep (λ a. g (f a)) m
+alter-over keep g f (read a p) = refl
+alter-over keep g f (stopped e) = refl
 
 -- a call of a group whose answer is handed on
-pub tail : {E A B C : Type 0} {keep : Reason → E} (f : B → C) (k : A → ℕ → Read B) (g : A → C) (m : Read A) (x : Told E C) → x ≡ tell keep g m → ((a : A) (p : ℕ) → got (g a) p ≡ tell keep f (k a p)) → x ≡ tell keep f (bind m k)
-tail f k g (read a p) x e t = e ∙ t a p
-tail f k g (stopped r) x e t = e
+pub tail : {E A B C : Type 0} (keep : Reason → E) (f : B → C) (k : A → ℕ → Read B) (g : A → C) (m : Read A) (x : Told E C) → x ≡ tell keep g m → ((a : A) (p : ℕ) → got (g a) p ≡ tell keep f (k a p)) → x ≡ tell keep f (bind m k)
+tail keep f k g (read a p) x e t = e ∙ t a p
+tail keep f k g (stopped r) x e t = e
 
 -- a branch that the code took, and one that it did not take
-module _ {E A B : Type 0} {keep : Reason → E} (f : A → B) (a b : ℕ) (r q : Reader A) (s : List ℕ) (p : ℕ) (x : Told E B) where
+module _ {E A B : Type 0} (keep : Reason → E) (f : A → B) (a b : ℕ) (r q : Reader A) (s : List ℕ) (p : ℕ) (x : Told E B) where
   pub taken : a ≡ b → x ≡ tell keep f (r s p) → x ≡ tell keep f (pick (eqb a b) r q s p)
   taken e h = rw (eq-eqb a b e) h
 
@@ -176,7 +176,7 @@ module _ {E A B : Type 0} {keep : Reason → E} (f : A → B) (a b : ℕ) (r q :
   left-le e h = rw (lt-leb a b e) h
 
 -- a group that is there, and one that isn't
-module _ {E A B C : Type 0} {keep : Reason → E} (f : A → B) (b : Bool) (d : C) (r : Reader C) (s : List ℕ) (p : ℕ) (k : C → ℕ → Read A) (x : Told E B) where
+module _ {E A B C : Type 0} (keep : Reason → E) (f : A → B) (b : Bool) (d : C) (r : Reader C) (s : List ℕ) (p : ℕ) (k : C → ℕ → Read A) (x : Told E B) where
   pub there : b ≡ true → x ≡ tell keep f (bind (r s p) k) → x ≡ tell keep f (bind (groupIf b d r s p) k)
   unfolding groupIf
   there e h = rw e h

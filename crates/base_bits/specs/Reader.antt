@@ -57,11 +57,19 @@ tell keep f (read a p) = got (f a) p
 tell keep f (stopped w) = refused (keep w)
 
 -- the code's answer keeps the refusal
+abbrev pub said : Reason → Refusal
+said w = w .refusal
+
 abbrev pub Got : Type 0 → Type 0
 Got A = Told Refusal A
 
+-- a value and the place past it, as the code answers them
+abbrev pub valued : {A : Type 0} → A → ℕ → Got A
+valued a p = got a p
+
+-- what the code answers to a reading
 abbrev pub over : {A B : Type 0} → (A → B) → Read A → Got B
-over f m = tell (λ w. w .refusal) f m
+over f m = tell said f m
 
 -- the code's answer where the value stands beside its place
 abbrev pub viewNext : {A : Type 0} → A → Next → Got A

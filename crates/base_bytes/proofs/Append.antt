@@ -29,7 +29,7 @@ nothing-more out at t h = let z : fitting out at t ≡ 0 = omega arith in rw z (
 
 pub same-length : (out : List ℕ) (at : ℕ) (t : List ℕ) → length (putInto out at t) ≡ length out
 unfolding putInto
-same-length out at t = ⊎-elim (λ h. ap length (nothing-more out at t h)) within (below (length out) at)
+same-length out at t = ⊎-elim within (λ h. ap length (nothing-more out at t h)) (below at (length out))
   where
     within : at < length out → length (putInto out at t) ≡ length out
     within h = length-paste out at t (fitting out at t) (omega arith) (omega arith)
@@ -64,7 +64,7 @@ module _ (out : List ℕ) (at : ℕ) (a b : List ℕ) where
   full h = nothing-more (putInto out at a) (placeAfter out at a) b (past h) ∙ no-more h
 
   text-join : putInto (putInto out at a) (placeAfter out at a) b ≡ putInto out at (a ++ b)
-  text-join = ⊎-elim full roomy (below (length out) (at + length a))
+  text-join = ⊎-elim roomy full (below (at + length a) (length out))
 
 pub then : {out out₁ out₂ : List ℕ} {at at₁ at₂ : ℕ} {a b : List ℕ} → Written out at a at₁ out₁ → Written out₁ at₁ b at₂ out₂ → Written out at (a ++ b) at₂ out₂
 then {out} {out₁} {out₂} {at} {at₁} {at₂} {a} {b} v w =

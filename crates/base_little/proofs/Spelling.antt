@@ -8,8 +8,7 @@ use native.Mathlib.Numerals.{add-one}
 use native.Mathlib.Omega.{arith}
 use lib.ListN.{length, getD, take, drop, length-append}
 use lib.Seq.{append-snoc, getD-append-seam, drop-cons}
-use Rattle.base_little.specs.Little as Little
 use Rattle.base_little.specs.Little.{little, spellLittle}
 
 pub length-little : (n v : ℕ) → length (spellLittle n v) ≡ n
 unfolding spellLittle

@@ -7,6 +7,7 @@ use mathlib.Core.List.{List}
 use native.Mathlib.Omega.{arith}
 use Rattle.base_bits.specs.declared.Refusal.{Refusal}
 use Rattle.base_types.specs.declared.state.ReaderState.{ReaderState}
+use Rattle.header_verdict.specs.declared.Verdict.{Verdict}
 use Rattle.chunk_index.specs.declared.Answer.{Answer as SplitAnswer}
 use Rattle.chunk_index.specs.declared.Answer.the-variants as split
 use Rattle.chunk_index.specs.Split.{splitOf}
@@ -22,7 +23,7 @@ use Rattle.chunk_judged.proofs.Walk.{verdictAt, by-split}
 use Rattle.chunk_judged.proofs.Fault.{Good, Found, found, one-found}
 
 module _ (judge : Judge) (s : List ℕ) (st : ReaderState) where
-  abbrev verdicts : ℕ → _
+  abbrev verdicts : ℕ → Verdict
   verdicts = verdictAt judge s st
 
   abbrev accepted : ℕ → ChunkRead

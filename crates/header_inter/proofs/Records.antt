@@ -3,7 +3,7 @@
 use Prim.Native.Nat.{ℕ}
 use mathlib.Core.Path.{_≡_}
 use mathlib.Core.List.{List}
-use Rattle.base_bits.specs.Reader.{got}
+use Rattle.base_bits.specs.Reader.{got, valued}
 use Rattle.base_settings.specs.declared.size.FrameSize.{FrameSize}
 use Rattle.part_color.specs.declared.Color.{Color}
 use Rattle.part_sizes.specs.declared.Sizes.{Sizes}
@@ -16,6 +16,6 @@ use Rattle.header_inter.specs.Inter.{interOf}
 
 pub inter-read : (color : Color) (slots : List FrameSize) (p : ℕ) (x : Sources) (z : Sizes) (m : Motion) (a : SourcesValues) (b : SizeWithRefsValues) (d : MotionValues)
     → x ≡ sourcesOf a → z ≡ sizeWithRefsOf slots (x .refs) b → m ≡ motionOf d
-    → got (record { color = color; sources = x; sizes = z; motion = m }) p ≡ got (interOf color slots (record { sources = a; sizes = b; motion = d })) p
+    → valued (record { color = color; sources = x; sizes = z; motion = m }) p ≡ got (interOf color slots (record { sources = a; sizes = b; motion = d })) p
 unfolding interOf sourcesOf
 inter-read color slots p x z m a b d ex ez em = rw (ez, em, ex)

@@ -7,7 +7,7 @@ use mathlib.Core.List.{List}
 use Rattle.base_bits.specs.declared.Refusal.{Refusal}
 use Rattle.base_bits.specs.declared.Refusal.the-variants.{PastEnd}
 use Rattle.base_bits.specs.Syntax.{flag}
-use Rattle.base_bits.specs.Reader.{Got, Read, got, refused, over, alter, groupIf}
+use Rattle.base_bits.specs.Reader.{Got, Read, got, refused, over, alter, groupIf, said}
 use Rattle.base_bits.proofs.Steps.{group-step, group-stop, tail, alter-over}
 use Rattle.base_settings.specs.declared.size.FrameSize.{FrameSize}
 use Rattle.part_traits.specs.declared.Kind.{Kind}
@@ -32,7 +32,7 @@ keyKind = record { «intra_only» = false; «reset_frame_context» = 0 }
 
 -- a picture's answer with its kind
 altered : {A : Type 0} (kind : Kind) (f : A → Picture) (m : Read A) (x : Got Shot) (y : Got Picture) → x ≡ alter (withKind kind) y → y ≡ over f m → x ≡ over (λ a. withKind kind (f a)) m
-altered kind f m x y ex ey = ex ∙ ap (alter (withKind kind)) ey ∙ alter-over (withKind kind) f m
+altered kind f m x y ex ey = ex ∙ ap (alter (withKind kind)) ey ∙ alter-over said (withKind kind) f m
 
 module _ (profile : ℕ) (color : Color) (slots : List FrameSize) (key shown resilient : Bool) (s : List ℕ) (p : ℕ) where
   abbrev Shoots : Got Shot → Type 0
@@ -41,24 +41,24 @@ module _ (profile : ℕ) (color : Color) (slots : List FrameSize) (key shown res
   pub key-shot : key ≡ true → (x : Got Shot) (y : Got Picture) → y ≡ over (keyOf profile) (readKey profile s p) → x ≡ alter (withKind keyKind) y → Shoots x
   unfolding readShot shotOf groupIf kindOf
   key-shot k x y ey ex =
-      rw k (tail _ _ (λ a. withKind keyKind (keyOf profile a)) (readKey profile s p) x (altered keyKind (keyOf profile) (readKey profile s p) x y ex ey) (λ a q. refl))
+      rw k (tail said _ _ (λ a. withKind keyKind (keyOf profile a)) (readKey profile s p) x (altered keyKind (keyOf profile) (readKey profile s p) x y ex ey) (λ a q. refl))
 
   pub no-kind-shot : key ≡ false → refused PastEnd ≡ over kindOf (readKind shown resilient s p) → Shoots (refused PastEnd)
   unfolding readShot groupIf
-  no-kind-shot k e = rw k (group-stop kindOf (readKind shown resilient s p) _ _ PastEnd e)
+  no-kind-shot k e = rw k (group-stop said kindOf (readKind shown resilient s p) _ _ PastEnd e)
 
   module _ (k : key ≡ false) (kind : Kind) (q : ℕ) (e : got kind q ≡ over kindOf (readKind shown resilient s p)) where
     pub intra-only-shot : kind .«intra_only» ≡ true → (x : Got Shot) (y : Got Picture) → y ≡ over (intraOnlyOf profile) (readIntraOnly profile s q) → x ≡ alter (withKind kind) y → Shoots x
     unfolding readShot shotOf groupIf kindOf
-    intra-only-shot i x y ey ex = rw k (group-step kindOf (readKind shown resilient s p) _ _ kind q x e λ d ed.
+    intra-only-shot i x y ey ex = rw k (group-step said kindOf (readKind shown resilient s p) _ _ kind q x e λ d ed.
         let f : flag (d .intra-only) ≡ true = sym (ap (λ (a : Kind). a .«intra_only») ed) ∙ i in
-        rw f (tail _ _ (λ a. withKind kind (intraOnlyOf profile a)) (readIntraOnly profile s q) x (altered kind (intraOnlyOf profile) (readIntraOnly profile s q) x y ex ey) (λ a n. rw (ed, f))))
+        rw f (tail said _ _ (λ a. withKind kind (intraOnlyOf profile a)) (readIntraOnly profile s q) x (altered kind (intraOnlyOf profile) (readIntraOnly profile s q) x y ex ey) (λ a n. rw (ed, f))))
 
     pub inter-shot : kind .«intra_only» ≡ false → (x : Got Shot) (y : Got Picture) → y ≡ over (interOf color slots) (readInter s q) → x ≡ alter (withKind kind) y → Shoots x
     unfolding readShot shotOf groupIf kindOf
-    inter-shot i x y ey ex = rw k (group-step kindOf (readKind shown resilient s p) _ _ kind q x e λ d ed.
+    inter-shot i x y ey ex = rw k (group-step said kindOf (readKind shown resilient s p) _ _ kind q x e λ d ed.
         let f : flag (d .intra-only) ≡ false = sym (ap (λ (a : Kind). a .«intra_only») ed) ∙ i in
-        rw f (tail _ _ (λ a. withKind kind (interOf color slots a)) (readInter s q) x (altered kind (interOf color slots) (readInter s q) x y ex ey) (λ a n. rw (ed, f))))
+        rw f (tail said _ _ (λ a. withKind kind (interOf color slots a)) (readInter s q) x (altered kind (interOf color slots) (readInter s q) x y ex ey) (λ a n. rw (ed, f))))
 
 -- what `parse_kind` answered
 pub kind-got : {x : Got Kind} (r : KindRead) (k : Kind) (c : Cursor) → viewKind r ≡ x → r ≡ Value k c → got k (c .at) ≡ x

@@ -9,7 +9,7 @@ use Rattle.base_bits.specs.declared.Bits.{Bits}
 use Rattle.base_bits.specs.declared.Bits.the-variants.{Value}
 use Rattle.base_bits.specs.declared.Cursor.{Cursor}
 use Rattle.base_bits.specs.Read.{readBits}
-use Rattle.base_bits.specs.Reader.{got}
+use Rattle.base_bits.specs.Reader.{got, valued}
 use Rattle.base_bits.proofs.Steps.{value-lt}
 use Rattle.part_color.specs.declared.Color.{Color}
 use Rattle.part_color.specs.Color.{colorOf}
@@ -26,11 +26,11 @@ pub refresh-fits : (s : List ℕ) (p : ℕ) (r : Bits) (n : ℕ) (c : Cursor) �
 refresh-fits s p r n c e t = record { fits = value-lt s p 8 r n c e t tt }
 
 pub key-read : (profile n p : ℕ) (x : Picture) (c : Color) (z : Sizes) (a : ColorValues) (b : SizesValues) → c ≡ colorOf profile a → z ≡ sizesOf b → x ≡ intraPicture c 255 z
-    → got x p ≡ got (keyOf profile (record { frame-sync-code = n; color = a; sizes = b })) p
+    → valued x p ≡ got (keyOf profile (record { frame-sync-code = n; color = a; sizes = b })) p
 unfolding keyOf
 key-read profile n p x c z a b ec ez ex = rw (ex, ec, ez)
 
 pub intra-only-read : (profile n r p : ℕ) (x : Picture) (c : Color) (z : Sizes) (a : ColorValues) (b : SizesValues) → c ≡ intraColorOf profile a → z ≡ sizesOf b → x ≡ intraPicture c r z
-    → got x p ≡ got (intraOnlyOf profile (record { frame-sync-code = n; color = a; refresh-frame-flags = r; sizes = b })) p
+    → valued x p ≡ got (intraOnlyOf profile (record { frame-sync-code = n; color = a; refresh-frame-flags = r; sizes = b })) p
 unfolding intraOnlyOf
 intra-only-read profile n r p x c z a b ec ez ex = rw (ex, ec, ez)

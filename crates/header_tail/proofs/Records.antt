@@ -13,7 +13,7 @@ use Rattle.base_bits.specs.declared.Next.{Next}
 use Rattle.base_bits.specs.declared.Next.the-variants.{At, Refused}
 use Rattle.base_bits.specs.declared.Refusal.{Refusal}
 use Rattle.base_bits.specs.Read.{readBits}
-use Rattle.base_bits.specs.Reader.{Got, got, refused, viewNext}
+use Rattle.base_bits.specs.Reader.{Got, got, refused, viewNext, valued}
 use Rattle.base_bits.proofs.Steps.{value-lt}
 use Rattle.base_settings.specs.declared.loop_filter.LoopFilterParams.{LoopFilterParams}
 use Rattle.base_settings.specs.declared.quantization.QuantizationParams.{QuantizationParams}
@@ -29,7 +29,7 @@ use Rattle.header_tail.specs.Closing.{closingOf}
 
 pub settings-read : (lf : LoopFilterParams) (seg : SegmentationParams) (p : ℕ) (x : LoopFilterParams) (y : QuantizationParams) (z : SegmentationParams) (a : LoopFilterValues) (b : QuantizerValues) (d : SegmentationValues)
     → x ≡ loopFilterOf false lf a → y ≡ quantizerOf b → z ≡ segmentationOf false seg d
-    → got (record { lf = x; quant = y; seg = z }) p ≡ got (settingsOver lf seg (record { loop-filter = a; quantizer = b; segmentation = d })) p
+    → valued (record { lf = x; quant = y; seg = z }) p ≡ got (settingsOver lf seg (record { loop-filter = a; quantizer = b; segmentation = d })) p
 unfolding settingsOver
 settings-read lf seg p x y z a b d ex ey ez = rw (ex, ey, ez)
 
@@ -51,6 +51,6 @@ pub bytes-fit : (s : List ℕ) (p : ℕ) (r : Bits) (n : ℕ) (c : Cursor) → r
 bytes-fit s p r n c e t = record { fits = value-lt s p 16 r n c e t tt }
 
 pub closing-read : (width n p : ℕ) (t : Tiles) (a : TilesValues) → t ≡ tilesOf width a
-    → got (record { tiles = t; «header_size_in_bytes» = n }) p ≡ got (closingOf width (record { tiles = a; header-size-in-bytes = n })) p
+    → valued (record { tiles = t; «header_size_in_bytes» = n }) p ≡ got (closingOf width (record { tiles = a; header-size-in-bytes = n })) p
 unfolding closingOf
 closing-read width n p t a e = rw e

@@ -16,7 +16,7 @@ use Rattle.base_bits.specs.declared.Bits.{Bits}
 use Rattle.base_bits.specs.declared.Bits.the-variants.{Value}
 use Rattle.base_bits.specs.declared.Cursor.{Cursor}
 use Rattle.base_bits.specs.Read.{readBitsIf}
-use Rattle.base_bits.specs.Reader.{got}
+use Rattle.base_bits.specs.Reader.{got, valued}
 use Rattle.base_bits.proofs.Steps.{value-if-lt}
 use Rattle.grammar_settings.specs.Settings.{signed, probOf}
 use Rattle.part_coded.specs.declared.Delta.{Delta}
@@ -34,18 +34,18 @@ module _ (b : Bool) (s : List ℕ) (q n : ℕ) (r : Bits) (m : ℕ) (c : Cursor)
   magnitude-small = omega (arith, value-if-lt b s q n r e (narrow n l) m c t, pow-mono l)
 
   pub delta-read : (u g p : ℕ) (x : ℤ) → x ≡ signed m (eqb g 1)
-      → got (record { coded = eqb u 1; value = toZ w8 (ofZ w8 x) }) p ≡ got (deltaOf (record { coded = u; magnitude = m; sign = g })) p
+      → valued (record { coded = eqb u 1; value = toZ w8 (ofZ w8 x) }) p ≡ got (deltaOf (record { coded = u; magnitude = m; sign = g })) p
   unfolding deltaOf
   delta-read u g p x ex = rw (ex, toZ-ofZ (signed-fits w8 m magnitude-small (eqb g 1)))
 
 pub prob-fits : (b : Bool) (s : List ℕ) (q : ℕ) (r : Bits) (m : ℕ) (c : Cursor) → r ≡ readBitsIf b s q 8 → r ≡ Value m c → Fits w8 m
 prob-fits b s q r m c e t = record { fits = value-if-lt b s q 8 r e tt m c t }
 
-pub prob-read : (u m p : ℕ) → u ≡ 1 → got m p ≡ got (probOf (record { coded = u; prob = m })) p
+pub prob-read : (u m p : ℕ) → u ≡ 1 → valued m p ≡ got (probOf (record { coded = u; prob = m })) p
 unfolding probOf
 prob-read u m p eu = rw (eq-eqb u 1 eu)
 
-pub prob-none : (u m p : ℕ) → (u ≡ 1 → ⊥) → got 255 p ≡ got (probOf (record { coded = u; prob = m })) p
+pub prob-none : (u m p : ℕ) → (u ≡ 1 → ⊥) → valued 255 p ≡ got (probOf (record { coded = u; prob = m })) p
 unfolding probOf
 prob-none u m p nu = rw (ne-eqb u 1 nu)
 

@@ -10,7 +10,7 @@ use denote.Enum.Declared.{tagOf}
 use Rattle.base_bits.specs.declared.Cursor.{Cursor}
 use Rattle.base_bits.specs.declared.Refusal.the-variants.{PastEnd}
 use Rattle.base_bits.specs.Refusal.{Name}
-use Rattle.base_bits.specs.Reader.{Got, Read, refused, bind, over}
+use Rattle.base_bits.specs.Reader.{Got, Read, refused, bind, over, said}
 use Rattle.base_bits.proofs.Steps.{group-step, group-stop}
 use Rattle.part_coded.specs.declared.Delta.{Delta}
 use Rattle.part_coded.specs.declared.DeltaRead.{DeltaRead}
@@ -28,7 +28,7 @@ no-delta TooWide e h = e
 module _ {B D : Type 0} (s : List ℕ) (p : ℕ) (f : B → D) (x y z : Name) where
   module _ (n : ℕ) (r : DeltaRead) (k : DeltaValues → ℕ → Read B) (e : NarrowIs s p n r) where
     pub delta-step : (d : Delta) (c : Cursor) (o : Got D) → r ≡ Value d c → ((a : DeltaValues) → d ≡ deltaOf a → o ≡ over f (k a (c .at))) → o ≡ over f (bind (readDelta x y z n s p) k)
-    delta-step d c o h t = group-step deltaOf (readDelta x y z n s p) f k d (c .at) o (rw h at (e .1 x y z)) t
+    delta-step d c o h t = group-step said deltaOf (readDelta x y z n s p) f k d (c .at) o (rw h at (e .1 x y z)) t
 
     pub delta-stop : OneOf (1 ∷ 2 ∷ []) (tagOf the-type r) → refused PastEnd ≡ over f (bind (readDelta x y z n s p) k)
-    delta-stop h = group-stop deltaOf (readDelta x y z n s p) f k PastEnd (no-delta r (e .1 x y z) h)
+    delta-stop h = group-stop said deltaOf (readDelta x y z n s p) f k PastEnd (no-delta r (e .1 x y z) h)

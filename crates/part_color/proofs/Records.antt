@@ -4,7 +4,7 @@ use Prim.Native.Nat.{ℕ, _≤_, _<_}
 use mathlib.Core.Path.{_≡_}
 use mathlib.Core.List.{List}
 use borrow.Author.Tests.{lt-ltb, le-ltb}
-use Rattle.base_bits.specs.Reader.{got, over, groupIf}
+use Rattle.base_bits.specs.Reader.{got, over, groupIf, valued}
 use Rattle.base_enums.specs.ColorSpace.{colorSpaceOf}
 use Rattle.base_enums.specs.declared.BitDepth.{BitDepth}
 use Rattle.base_enums.specs.declared.ColorSpace.{ColorSpace}
@@ -18,7 +18,7 @@ use Rattle.grammar_tables.specs.Reading.{readColor}
 use Rattle.part_color.specs.Intra.{fixedColor, readIntraColor, intraColorOf}
 
 pub color-read : (profile d n p : ℕ) (v : SamplingValues) (depth : BitDepth) (space : ColorSpace) (a : Sampling) → depth ≡ depthOf profile d → space ≡ colorSpaceOf n → a ≡ samplingOf profile n v
-    → got (record { «bit_depth» = depth; «color_space» = space; «color_range» = a .«color_range»; «subsampling_x» = a .«subsampling_x»; «subsampling_y» = a .«subsampling_y» }) p
+    → valued (record { «bit_depth» = depth; «color_space» = space; «color_range» = a .«color_range»; «subsampling_x» = a .«subsampling_x»; «subsampling_y» = a .«subsampling_y» }) p
     ≡ got (colorOf profile (flatColor d n v)) p
 unfolding colorOf samplingOf
 color-read profile d n p v depth space a ed es ea = rw (ed, es, ea)

@@ -8,7 +8,7 @@ use types.Run.{OneOf}
 use denote.Enum.Declared.{tagOf}
 use Rattle.base_bits.specs.declared.Cursor.{Cursor}
 use Rattle.base_bits.specs.declared.Refusal.the-variants.{PastEnd}
-use Rattle.base_bits.specs.Reader.{Got, Read, refused, bind, over}
+use Rattle.base_bits.specs.Reader.{Got, Read, refused, bind, over, said}
 use Rattle.base_bits.proofs.Steps.{group-step, group-stop}
 use Rattle.part_color.specs.declared.Color.{Color}
 use Rattle.part_color.specs.declared.ColorRead.{ColorRead}
@@ -28,14 +28,14 @@ module _ {B D : Type 0} (s : List ℕ) (p : ℕ) (f : B → D) (n m : ℕ) (prof
   module _ (r : ColorRead) (k : ColorValues → ℕ → Read B) where
     module _ (e : viewColor r ≡ over (colorOf n) (readColor n s p)) where
       pub color-step : (a : Color) (c : Cursor) (o : Got D) → r ≡ Value a c → ((v : ColorValues) → a ≡ colorOf m v → o ≡ over f (k v (c .at))) → o ≡ over f (bind (readColor m s p) k)
-      color-step a c o h t = group-step (colorOf m) (readColor m s p) f k a (c .at) o (rw (h, profile) at e) t
+      color-step a c o h t = group-step said (colorOf m) (readColor m s p) f k a (c .at) o (rw (h, profile) at e) t
 
       pub color-stop : OneOf (1 ∷ []) (tagOf the-type r) → refused PastEnd ≡ over f (bind (readColor m s p) k)
-      color-stop h = group-stop (colorOf m) (readColor m s p) f k PastEnd (no-color r (rw profile at e) h)
+      color-stop h = group-stop said (colorOf m) (readColor m s p) f k PastEnd (no-color r (rw profile at e) h)
 
     module _ (e : viewColor r ≡ over (intraColorOf n) (readIntraColor n s p)) where
       pub intra-color-step : (a : Color) (c : Cursor) (o : Got D) → r ≡ Value a c → ((v : ColorValues) → a ≡ intraColorOf m v → o ≡ over f (k v (c .at))) → o ≡ over f (bind (readIntraColor m s p) k)
-      intra-color-step a c o h t = group-step (intraColorOf m) (readIntraColor m s p) f k a (c .at) o (rw (h, profile) at e) t
+      intra-color-step a c o h t = group-step said (intraColorOf m) (readIntraColor m s p) f k a (c .at) o (rw (h, profile) at e) t
 
       pub intra-color-stop : OneOf (1 ∷ []) (tagOf the-type r) → refused PastEnd ≡ over f (bind (readIntraColor m s p) k)
-      intra-color-stop h = group-stop (intraColorOf m) (readIntraColor m s p) f k PastEnd (no-color r (rw profile at e) h)
+      intra-color-stop h = group-stop said (intraColorOf m) (readIntraColor m s p) f k PastEnd (no-color r (rw profile at e) h)

@@ -14,7 +14,7 @@ use Rattle.base_bits.specs.declared.Bits.{Bits}
 use Rattle.base_bits.specs.declared.Bits.the-variants.{Value}
 use Rattle.base_bits.specs.declared.Cursor.{Cursor}
 use Rattle.base_bits.specs.Read.{readBitsIf}
-use Rattle.base_bits.specs.Reader.{got}
+use Rattle.base_bits.specs.Reader.{got, valued}
 use Rattle.grammar_settings.specs.Settings.{signed}
 use Rattle.part_coded.proofs.Signed.{signed-fits}
 use Rattle.part_feature.specs.Feature.{featureOf}
@@ -30,6 +30,6 @@ module _ (b : Bool) (s : List ℕ) (p j n : ℕ) (wide : n ≡ featureBits j) (r
   value-fits = record { fits = small }
 
   pub feature-read : (u g q : ℕ) (z : ℤ) → z ≡ signed m (eqb g 1)
-      → got (record { enabled = eqb u 1; value = toZ w16 (ofZ w16 z) }) q ≡ got (featureOf (record { feature-enabled = u; feature-value = m; feature-sign = g })) q
+      → valued (record { enabled = eqb u 1; value = toZ w16 (ofZ w16 z) }) q ≡ got (featureOf (record { feature-enabled = u; feature-value = m; feature-sign = g })) q
   unfolding featureOf
   feature-read u g q z ez = rw (ez, toZ-ofZ (signed-fits w16 m (omega (arith, small)) (eqb g 1)))

@@ -16,7 +16,7 @@ use Rattle.base_bits.specs.declared.Cursor.{Cursor}
 use Rattle.base_bits.specs.declared.Refusal.the-variants.{PastEnd}
 use Rattle.base_bits.specs.Refusal.{Name}
 use Rattle.base_bits.specs.Read.{readBitsIf}
-use Rattle.base_bits.specs.Reader.{Got, Read, refused, bind, over, fieldIf}
+use Rattle.base_bits.specs.Reader.{Got, Read, refused, bind, over, fieldIf, said}
 use Rattle.base_bits.proofs.Bits.{the-type}
 use Rattle.base_bits.proofs.Steps.{value-if-lt, step-if, stop-if}
 use Rattle.grammar_tables.specs.Tables.{featureBits}
@@ -35,10 +35,10 @@ module _ (b : Bool) (s : List ℕ) (p j n : ℕ) (wide : n ≡ featureBits j) (r
 
   module _ {A B : Type 0} (x : Name) (f : A → B) (k : ℕ → ℕ → Read A) where
     pub value-step : (v : ℕ) (c : Cursor) (y : Got B) → r ≡ Value v c → y ≡ over f (k v (c .at)) → y ≡ over f (bind (fieldIf b x (featureBits j) s p) k)
-    value-step v c y h m = rw (← wide) (step-if b b refl x s p n f k r e few v c y h m)
+    value-step v c y h m = rw (← wide) (step-if said b b refl x s p n f k r e few v c y h m)
 
     pub value-stop : OneOf (1 ∷ 2 ∷ []) (tagOf the-type r) → refused PastEnd ≡ over f (bind (fieldIf b x (featureBits j) s p) k)
-    value-stop h = rw (← wide) (stop-if b b refl x s p n f k r e few h)
+    value-stop h = rw (← wide) (stop-if said b b refl x s p n f k r e few h PastEnd refl)
 
   pub value-small : (m : ℕ) (c : Cursor) → r ≡ Value m c → m < 256
   value-small m c t =

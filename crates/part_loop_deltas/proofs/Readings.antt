@@ -5,7 +5,7 @@ use mathlib.Core.Path.{_≡_, refl}
 use mathlib.Core.List.{List}
 use lib.Dec.{eqb}
 use borrow.Author.Tests.{eq-eqb, ne-eqb}
-use Rattle.base_bits.specs.Reader.{Got, Read, read, stopped, got, bind, over, Reader, groupIf}
+use Rattle.base_bits.specs.Reader.{Got, Read, read, stopped, got, bind, over, Reader, groupIf, said}
 use Rattle.base_bits.specs.Many.{many}
 use Rattle.base_bits.proofs.Steps.{tail}
 
@@ -34,4 +34,4 @@ module _ {A B D : Type 0} (f : B → D) (d : A) (r : Reader A) (s : List ℕ) (p
   group-taken e h = rw (eq-eqb a b e) h
 
   pub group-tail : (g : A → D) → a ≡ b → o ≡ over g (r s p) → ((v : A) (q : ℕ) → got (g v) q ≡ over f (k v q)) → o ≡ over f (bind (groupIf (eqb a b) d r s p) k)
-  group-tail g e h t = group-taken e (tail f k g (r s p) o h t)
+  group-tail g e h t = group-taken e (tail said f k g (r s p) o h t)

@@ -9,7 +9,7 @@ use mir.Val.{SFits, toZ, ofZ}
 use mir.Facts.{toZ-ofZ}
 use mir.Syntax.{w8}
 use borrow.Author.Tests.{eq-eqb, ne-eqb}
-use Rattle.base_bits.specs.Reader.{got}
+use Rattle.base_bits.specs.Reader.{got, valued}
 use Rattle.base_bits.specs.Many.{Times}
 use Rattle.part_coded.specs.declared.Delta.{Delta}
 use Rattle.part_coded.specs.Delta.{deltaOf}
@@ -22,11 +22,11 @@ use Rattle.grammar_tables.specs.Reading.{noRefDeltas, noModeDeltas}
 
 -- the loop filter's deltas
 pub ref-deltas : (i l g x : Delta) (a b c d : DeltaValues) (p : ℕ) → i ≡ deltaOf a → l ≡ deltaOf b → g ≡ deltaOf c → x ≡ deltaOf d
-    → got (record { intra = i; last = l; golden = g; altref = x }) p ≡ got (refDeltasOf (a, (b, (c, (d, tt))))) p
+    → valued (record { intra = i; last = l; golden = g; altref = x }) p ≡ got (refDeltasOf (a, (b, (c, (d, tt))))) p
 unfolding refDeltasOf
 ref-deltas i l g x a b c d p ei el eg ex = rw (ei, el, eg, ex)
 
-pub mode-deltas : (z o : Delta) (a b : DeltaValues) (p : ℕ) → z ≡ deltaOf a → o ≡ deltaOf b → got (record { zero = z; other = o }) p ≡ got (modeDeltasOf (a, (b, tt))) p
+pub mode-deltas : (z o : Delta) (a b : DeltaValues) (p : ℕ) → z ≡ deltaOf a → o ≡ deltaOf b → valued (record { zero = z; other = o }) p ≡ got (modeDeltasOf (a, (b, tt))) p
 unfolding modeDeltasOf
 mode-deltas z o a b p ez eo = rw (ez, eo)
 
@@ -46,10 +46,10 @@ module _ (d : Delta) (old : ℤ) where
 -- the settings with and without an update of the deltas
 module _ (old : LoopFilterParams) (u p : ℕ) where
   pub deltas-moved : (lf : LoopFilterParams) (r : RefDeltas) (m : ModeDeltas) (rv : Times 4 DeltaValues) (mv : Times 2 DeltaValues)
-      → lf ≡ withDeltas old r m → u ≡ 1 → r ≡ refDeltasOf rv → m ≡ modeDeltasOf mv → got lf p ≡ got (loopDeltasOf old (record { delta-update = u; ref-deltas = rv; mode-deltas = mv })) p
+      → lf ≡ withDeltas old r m → u ≡ 1 → r ≡ refDeltasOf rv → m ≡ modeDeltasOf mv → valued lf p ≡ got (loopDeltasOf old (record { delta-update = u; ref-deltas = rv; mode-deltas = mv })) p
   unfolding loopDeltasOf
   deltas-moved lf r m rv mv e eu er em = rw (eq-eqb u 1 eu, e, er, em)
 
-  pub deltas-kept : (u ≡ 1 → ⊥) → got (withFlags old (old .level) (old .sharpness) (old .«delta_enabled») false) p ≡ got (loopDeltasOf old (record { delta-update = u; ref-deltas = noRefDeltas; mode-deltas = noModeDeltas })) p
+  pub deltas-kept : (u ≡ 1 → ⊥) → valued (withFlags old (old .level) (old .sharpness) (old .«delta_enabled») false) p ≡ got (loopDeltasOf old (record { delta-update = u; ref-deltas = noRefDeltas; mode-deltas = noModeDeltas })) p
   unfolding loopDeltasOf
   deltas-kept e = rw (ne-eqb u 1 e)

@@ -11,7 +11,7 @@ use Rattle.base_bits.specs.declared.Cursor.{Cursor}
 use Rattle.base_bits.specs.declared.Next.the-variants.{At, Refused}
 use Rattle.base_bits.specs.declared.Refusal.{Refusal}
 use Rattle.base_bits.specs.declared.Refusal.the-variants.{PastEnd}
-use Rattle.base_bits.specs.Reader.{Got, Read, refused, bind, over, groupIf}
+use Rattle.base_bits.specs.Reader.{Got, Read, refused, bind, over, groupIf, said}
 use Rattle.base_bits.specs.Many.{Times}
 use Rattle.base_bits.proofs.Steps.{group-step, group-stop, gave, lacked}
 use Rattle.grammar_tables.specs.Tables.{DeltaValues}
@@ -41,25 +41,25 @@ no-modes NoModes e h = e
 -- settings beside their place, whichever reading m they come from
 module _ {A B D : Type 0} (g : A → LoopFilterParams) (m : Read A) (f : B → D) (k : A → ℕ → Read B) (r : LoopFilterRead) (e : viewLoopFilter r ≡ over g m) where
   pub settings-step : (c : Cursor) (o : Got D) → r .next ≡ At c → ((a : A) → r .lf ≡ g a → o ≡ over f (k a (c .at))) → o ≡ over f (bind m k)
-  settings-step c o h t = group-step g m f k (r .lf) (c .at) o (gave (r .lf) (r .next) c e h) t
+  settings-step c o h t = group-step said g m f k (r .lf) (c .at) o (gave (r .lf) (r .next) c e h) t
 
   pub settings-stop : (u : Refusal) → r .next ≡ Refused u → refused u ≡ over f (bind m k)
-  settings-stop u h = group-stop g m f k u (lacked (r .lf) (r .next) u e h)
+  settings-stop u h = group-stop said g m f k u (lacked (r .lf) (r .next) u e h)
 
 module _ {B D : Type 0} (s : List ℕ) (p : ℕ) (f : B → D) where
   -- these two are called only where loop_filter_delta_update is 1
   module _ (u : ℕ) (eu : u ≡ 1) (r : RefDeltasRead) (k : Times 4 DeltaValues → ℕ → Read B) (e : viewRefDeltas r ≡ over refDeltasOf (readRefDeltas s p)) where
     pub refs-step : (x : RefDeltas) (c : Cursor) (o : Got D) → r ≡ Refs x c → ((a : Times 4 DeltaValues) → x ≡ refDeltasOf a → o ≡ over f (k a (c .at)))
         → o ≡ over f (bind (groupIf (eqb u 1) noRefDeltas readRefDeltas s p) k)
-    refs-step x c o h t = group-taken f noRefDeltas readRefDeltas s p u 1 k o eu (group-step refDeltasOf (readRefDeltas s p) f k x (c .at) o (rw h at e) t)
+    refs-step x c o h t = group-taken f noRefDeltas readRefDeltas s p u 1 k o eu (group-step said refDeltasOf (readRefDeltas s p) f k x (c .at) o (rw h at e) t)
 
     pub refs-stop : OneOf (1 ∷ []) (tagOf the-refs r) → refused PastEnd ≡ over f (bind (groupIf (eqb u 1) noRefDeltas readRefDeltas s p) k)
-    refs-stop h = group-taken f noRefDeltas readRefDeltas s p u 1 k (refused PastEnd) eu (group-stop refDeltasOf (readRefDeltas s p) f k PastEnd (no-refs r e h))
+    refs-stop h = group-taken f noRefDeltas readRefDeltas s p u 1 k (refused PastEnd) eu (group-stop said refDeltasOf (readRefDeltas s p) f k PastEnd (no-refs r e h))
 
   module _ (u : ℕ) (eu : u ≡ 1) (r : ModeDeltasRead) (k : Times 2 DeltaValues → ℕ → Read B) (e : viewModeDeltas r ≡ over modeDeltasOf (readModeDeltas s p)) where
     pub modes-step : (x : ModeDeltas) (c : Cursor) (o : Got D) → r ≡ Modes x c → ((a : Times 2 DeltaValues) → x ≡ modeDeltasOf a → o ≡ over f (k a (c .at)))
         → o ≡ over f (bind (groupIf (eqb u 1) noModeDeltas readModeDeltas s p) k)
-    modes-step x c o h t = group-taken f noModeDeltas readModeDeltas s p u 1 k o eu (group-step modeDeltasOf (readModeDeltas s p) f k x (c .at) o (rw h at e) t)
+    modes-step x c o h t = group-taken f noModeDeltas readModeDeltas s p u 1 k o eu (group-step said modeDeltasOf (readModeDeltas s p) f k x (c .at) o (rw h at e) t)
 
     pub modes-stop : OneOf (1 ∷ []) (tagOf the-modes r) → refused PastEnd ≡ over f (bind (groupIf (eqb u 1) noModeDeltas readModeDeltas s p) k)
-    modes-stop h = group-taken f noModeDeltas readModeDeltas s p u 1 k (refused PastEnd) eu (group-stop modeDeltasOf (readModeDeltas s p) f k PastEnd (no-modes r e h))
+    modes-stop h = group-taken f noModeDeltas readModeDeltas s p u 1 k (refused PastEnd) eu (group-stop said modeDeltasOf (readModeDeltas s p) f k PastEnd (no-modes r e h))

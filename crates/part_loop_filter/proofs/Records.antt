@@ -13,7 +13,7 @@ use Rattle.base_bits.specs.declared.Bits.{Bits}
 use Rattle.base_bits.specs.declared.Bits.the-variants.{Value}
 use Rattle.base_bits.specs.declared.Cursor.{Cursor}
 use Rattle.base_bits.specs.Read.{readBits}
-use Rattle.base_bits.specs.Reader.{got}
+use Rattle.base_bits.specs.Reader.{got, valued}
 use Rattle.base_bits.proofs.Steps.{value-lt}
 use Rattle.base_settings.specs.declared.loop_filter.LoopFilterParams.{LoopFilterParams}
 use Rattle.part_loop_deltas.specs.LoopDeltas.{withFlags, loopDeltasOf, withDeltas, movedRefs, movedModes, deltaMoved, refDeltasOf, modeDeltasOf, LoopDeltasValues, noLoopDeltas}
@@ -30,15 +30,15 @@ byte-fits s p n r m c e t l = record { fits = omega (arith, value-lt s p n r m c
 -- the settings with the deltas enabled and disabled
 module _ (old : LoopFilterParams) (l h e p : ℕ) where
   pub filter-moved : (d : LoopDeltasValues) → e ≡ 1
-      → got (loopDeltasOf (withFlags old l h (eqb e 1) (old .«delta_update»)) d) p ≡ got (loopFilterOf false old (flatFilter l h e d)) p
+      → valued (loopDeltasOf (withFlags old l h (eqb e 1) (old .«delta_update»)) d) p ≡ got (loopFilterOf false old (flatFilter l h e d)) p
   unfolding loopFilterOf loopDeltasOf withDeltas movedRefs movedModes deltaMoved refDeltasOf modeDeltasOf deltaOf deltaValue
   filter-moved d ee = go (flag (d .delta-update)) refl
     where
       go : (b : Bool) → flag (d .delta-update) ≡ b
-          → got (loopDeltasOf (withFlags old l h (eqb e 1) (old .«delta_update»)) d) p ≡ got (loopFilterOf false old (flatFilter l h e d)) p
+          → valued (loopDeltasOf (withFlags old l h (eqb e 1) (old .«delta_update»)) d) p ≡ got (loopFilterOf false old (flatFilter l h e d)) p
       go true u = rw (eq-eqb e 1 ee, u)
       go false u = rw (eq-eqb e 1 ee, u)
 
-  pub filter-plain : (e ≡ 1 → ⊥) → got (withFlags old l h (eqb e 1) (old .«delta_update»)) p ≡ got (loopFilterOf false old (flatFilter l h e noLoopDeltas)) p
+  pub filter-plain : (e ≡ 1 → ⊥) → valued (withFlags old l h (eqb e 1) (old .«delta_update»)) p ≡ got (loopFilterOf false old (flatFilter l h e noLoopDeltas)) p
   unfolding loopFilterOf
   filter-plain ne = rw (ne-eqb e 1 ne)

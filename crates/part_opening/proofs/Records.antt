@@ -12,7 +12,7 @@ use Rattle.base_bits.specs.declared.Bits.{Bits}
 use Rattle.base_bits.specs.declared.Bits.the-variants.{Value}
 use Rattle.base_bits.specs.declared.Cursor.{Cursor}
 use Rattle.base_bits.specs.Read.{readBits, readBitsIf}
-use Rattle.base_bits.specs.Reader.{got}
+use Rattle.base_bits.specs.Reader.{got, valued}
 use Rattle.base_bits.proofs.Steps.{value-lt, value-if-lt}
 use Rattle.part_opening.specs.Profile.{ProfileValues, openingProfile}
 use Rattle.part_opening.specs.Opening.{openingOf}
@@ -32,6 +32,6 @@ pub slot-fits : (b : Bool) (s : List ℕ) (p : ℕ) (r : Bits) (n : ℕ) (c : Cu
 slot-fits b s p r n c e t = record { fits = omega (arith, value-if-lt b s p 3 r e tt n c t) }
 
 pub opening-read : (n x i q : ℕ) (a : ProfileValues) → n ≡ openingProfile a
-    → got (record { profile = n; «show_existing_frame» = eqb x 1; «frame_to_show_map_idx» = i }) q ≡ got (openingOf (record { profile = a; show-existing-frame = x; frame-to-show-map-idx = i })) q
+    → valued (record { profile = n; «show_existing_frame» = eqb x 1; «frame_to_show_map_idx» = i }) q ≡ got (openingOf (record { profile = a; show-existing-frame = x; frame-to-show-map-idx = i })) q
 unfolding openingOf
 opening-read n x i q a e = rw e

@@ -15,7 +15,7 @@ use Rattle.base_bits.specs.declared.Bits.{Bits}
 use Rattle.base_bits.specs.declared.Bits.the-variants.{Value}
 use Rattle.base_bits.specs.declared.Cursor.{Cursor}
 use Rattle.base_bits.specs.Read.{readBits}
-use Rattle.base_bits.specs.Reader.{got}
+use Rattle.base_bits.specs.Reader.{got, valued}
 use Rattle.base_bits.proofs.Steps.{value-lt}
 use Rattle.part_coded.specs.declared.Delta.{Delta}
 use Rattle.part_coded.specs.Delta.{deltaOf}
@@ -25,12 +25,12 @@ use Rattle.grammar_settings.specs.Settings.{quantizerOf, deltaValue}
 pub base-fits : (s : List ℕ) (p : ℕ) (r : Bits) (n : ℕ) (c : Cursor) → r ≡ readBits s p 8 → r ≡ Value n c → Fits w8 n
 base-fits s p r n c e t = record { fits = value-lt s p 8 r n c e t tt }
 
-pub delta-q : (d : Delta) (v : DeltaValues) (p : ℕ) → d ≡ deltaOf v → SFits w8 (d .value) → got (toZ w8 (ofZ w8 (d .value))) p ≡ got (deltaValue v) p
+pub delta-q : (d : Delta) (v : DeltaValues) (p : ℕ) → d ≡ deltaOf v → SFits w8 (d .value) → valued (toZ w8 (ofZ w8 (d .value))) p ≡ got (deltaValue v) p
 unfolding deltaValue deltaOf
 delta-q d v p e f = rw (toZ-ofZ f, e)
 
 pub quantizer : (b p : ℕ) (y d a : ℤ) (yv dv av : DeltaValues) → y ≡ deltaValue yv → d ≡ deltaValue dv → a ≡ deltaValue av → SFits w8 y → SFits w8 d → SFits w8 a
-    → got (record { «base_q_idx» = b; «delta_q_y_dc» = toZ w8 (ofZ w8 y); «delta_q_uv_dc» = toZ w8 (ofZ w8 d); «delta_q_uv_ac» = toZ w8 (ofZ w8 a) }) p
+    → valued (record { «base_q_idx» = b; «delta_q_y_dc» = toZ w8 (ofZ w8 y); «delta_q_uv_dc» = toZ w8 (ofZ w8 d); «delta_q_uv_ac» = toZ w8 (ofZ w8 a) }) p
     ≡ got (quantizerOf (record { base-q-idx = b; delta-q-y-dc = yv; delta-q-uv-dc = dv; delta-q-uv-ac = av })) p
 unfolding quantizerOf
 quantizer b p y d a yv dv av ey ed ea fy fd fa = rw (toZ-ofZ fy, toZ-ofZ fd, toZ-ofZ fa, ey, ed, ea)

@@ -9,7 +9,7 @@ use types.Run.{OneOf}
 use denote.Enum.Declared.{tagOf}
 use Rattle.base_bits.specs.declared.Cursor.{Cursor}
 use Rattle.base_bits.specs.declared.Refusal.the-variants.{PastEnd}
-use Rattle.base_bits.specs.Reader.{Got, Read, read, stopped, refused, bind, over}
+use Rattle.base_bits.specs.Reader.{Got, Read, read, stopped, refused, bind, over, said}
 use Rattle.base_bits.proofs.Steps.{group-step, group-stop}
 use Rattle.grammar_tables.specs.Tables.{DeltaValues, QuantizerValues}
 use Rattle.base_settings.specs.declared.quantization.QuantizationParams.{QuantizationParams}
@@ -40,14 +40,14 @@ no-quantizer NoQuantizer e h = e
 module _ {B D : Type 0} (s : List ℕ) (p : ℕ) (f : B → D) where
   module _ (i : ℕ) (r : DeltaQRead) (k : DeltaValues → ℕ → Read B) (e : DeltaQIs s p r) where
     pub delta-q-step : (x : ℤ) (c : Cursor) (o : Got D) → r ≡ DeltaQ x c → ((a : DeltaValues) → x ≡ deltaValue a → o ≡ over f (k a (c .at))) → o ≡ over f (bind (readDeltaQ i s p) k)
-    delta-q-step x c o h t = group-step deltaValue (readDeltaQ i s p) f k x (c .at) o (rw h at (e i)) t
+    delta-q-step x c o h t = group-step said deltaValue (readDeltaQ i s p) f k x (c .at) o (rw h at (e i)) t
 
     pub delta-q-stop : OneOf (1 ∷ []) (tagOf the-delta-q r) → refused PastEnd ≡ over f (bind (readDeltaQ i s p) k)
-    delta-q-stop h = group-stop deltaValue (readDeltaQ i s p) f k PastEnd (no-delta-q r (e i) h)
+    delta-q-stop h = group-stop said deltaValue (readDeltaQ i s p) f k PastEnd (no-delta-q r (e i) h)
 
   module _ (r : QuantizerRead) (k : QuantizerValues → ℕ → Read B) (e : viewQuantizer r ≡ over quantizerOf (readQuantizer s p)) where
     pub quantizer-step : (x : QuantizationParams) (c : Cursor) (o : Got D) → r ≡ Quantizer x c → ((a : QuantizerValues) → x ≡ quantizerOf a → o ≡ over f (k a (c .at))) → o ≡ over f (bind (readQuantizer s p) k)
-    quantizer-step x c o h t = group-step quantizerOf (readQuantizer s p) f k x (c .at) o (rw h at e) t
+    quantizer-step x c o h t = group-step said quantizerOf (readQuantizer s p) f k x (c .at) o (rw h at e) t
 
     pub quantizer-stop : OneOf (1 ∷ []) (tagOf the-quantizer r) → refused PastEnd ≡ over f (bind (readQuantizer s p) k)
-    quantizer-stop h = group-stop quantizerOf (readQuantizer s p) f k PastEnd (no-quantizer r e h)
+    quantizer-stop h = group-stop said quantizerOf (readQuantizer s p) f k PastEnd (no-quantizer r e h)

@@ -12,7 +12,7 @@ use Rattle.base_bits.specs.declared.Bits.{Bits}
 use Rattle.base_bits.specs.declared.Bits.the-variants.{Value}
 use Rattle.base_bits.specs.declared.Cursor.{Cursor}
 use Rattle.base_bits.specs.Read.{readBits}
-use Rattle.base_bits.specs.Reader.{got}
+use Rattle.base_bits.specs.Reader.{got, valued}
 use Rattle.base_bits.proofs.Steps.{value-lt}
 use Rattle.part_refs.specs.declared.Ref.{Ref}
 use Rattle.part_refs.specs.Refs.{refOf, refsOf}
@@ -27,11 +27,11 @@ byte-fits s p n r v c e h t =
     record { fits = omega (arith, value-lt s p n r v c e h (le→leb n 31 (omega arith)), pow-mono l) }
 
 pub refs-read : (l g t : Ref) (x y z : RefValues) (p : ℕ) → l ≡ refOf x → g ≡ refOf y → t ≡ refOf z
-    → got (record { last = l; golden = g; altref = t }) p ≡ got (refsOf (record { last = x; golden = y; altref = z })) p
+    → valued (record { last = l; golden = g; altref = t }) p ≡ got (refsOf (record { last = x; golden = y; altref = z })) p
 unfolding refsOf
 refs-read l g t x y z p el eg et = rw (el, eg, et)
 
 pub sources-read : (n p : ℕ) (x : Refs) (a : RefsValues) → x ≡ refsOf a
-    → got (record { «refresh_frame_flags» = n; refs = x }) p ≡ got (sourcesOf (record { refresh-frame-flags = n; refs = a })) p
+    → valued (record { «refresh_frame_flags» = n; refs = x }) p ≡ got (sourcesOf (record { refresh-frame-flags = n; refs = a })) p
 unfolding sourcesOf
 sources-read n p x a e = rw e

@@ -5,7 +5,7 @@ use mathlib.Core.Path.{_≡_}
 use mathlib.Core.List.{List}
 use Rattle.base_bits.specs.declared.Cursor.{Cursor}
 use Rattle.base_bits.specs.declared.Refusal.the-variants.{PastEnd}
-use Rattle.base_bits.specs.Reader.{Got, Read, refused, bind, over}
+use Rattle.base_bits.specs.Reader.{Got, Read, refused, bind, over, said}
 use Rattle.base_bits.proofs.Steps.{group-step, group-stop}
 use Rattle.part_refs.specs.declared.Ref.{Ref}
 use Rattle.part_refs.specs.declared.RefRead.{RefRead}
@@ -24,21 +24,21 @@ use Rattle.part_refs.specs.Sources.{SourcesValues, readSources, sourcesO
 module _ {B D : Type 0} (s : List ℕ) (p : ℕ) (f : B → D) where
   module _ (i : ℕ) (r : RefRead) (k : RefValues → ℕ → Read B) (e : RefIs s p r) where
     pub ref-step : (v : Ref) (c : Cursor) (o : Got D) → r ≡ One v c → ((a : RefValues) → v ≡ refOf a → o ≡ over f (k a (c .at))) → o ≡ over f (bind (readRef i s p) k)
-    ref-step v c o h t = group-step refOf (readRef i s p) f k v (c .at) o (rw h at (e i)) t
+    ref-step v c o h t = group-step said refOf (readRef i s p) f k v (c .at) o (rw h at (e i)) t
 
     pub ref-stop : r ≡ NoRef → refused PastEnd ≡ over f (bind (readRef i s p) k)
-    ref-stop h = group-stop refOf (readRef i s p) f k PastEnd (rw h at (e i))
+    ref-stop h = group-stop said refOf (readRef i s p) f k PastEnd (rw h at (e i))
 
   module _ (r : RefsRead) (k : RefsValues → ℕ → Read B) (e : viewRefs r ≡ over refsOf (readRefs s p)) where
     pub refs-step : (v : Refs) (c : Cursor) (o : Got D) → r ≡ Three v c → ((a : RefsValues) → v ≡ refsOf a → o ≡ over f (k a (c .at))) → o ≡ over f (bind (readRefs s p) k)
-    refs-step v c o h t = group-step refsOf (readRefs s p) f k v (c .at) o (rw h at e) t
+    refs-step v c o h t = group-step said refsOf (readRefs s p) f k v (c .at) o (rw h at e) t
 
     pub refs-stop : r ≡ NoRefs → refused PastEnd ≡ over f (bind (readRefs s p) k)
-    refs-stop h = group-stop refsOf (readRefs s p) f k PastEnd (rw h at e)
+    refs-stop h = group-stop said refsOf (readRefs s p) f k PastEnd (rw h at e)
 
   module _ (r : SourcesRead) (k : SourcesValues → ℕ → Read B) (e : viewSources r ≡ over sourcesOf (readSources s p)) where
     pub sources-step : (v : Sources) (c : Cursor) (o : Got D) → r ≡ Names v c → ((a : SourcesValues) → v ≡ sourcesOf a → o ≡ over f (k a (c .at))) → o ≡ over f (bind (readSources s p) k)
-    sources-step v c o h t = group-step sourcesOf (readSources s p) f k v (c .at) o (rw h at e) t
+    sources-step v c o h t = group-step said sourcesOf (readSources s p) f k v (c .at) o (rw h at e) t
 
     pub sources-stop : r ≡ NamesNone → refused PastEnd ≡ over f (bind (readSources s p) k)
-    sources-stop h = group-stop sourcesOf (readSources s p) f k PastEnd (rw h at e)
+    sources-stop h = group-stop said sourcesOf (readSources s p) f k PastEnd (rw h at e)

@@ -4,7 +4,7 @@ use Prim.Native.Nat.{ℕ, _≤_, _<_}
 use mathlib.Core.Path.{_≡_}
 use lib.Dec.{eqb, leb}
 use borrow.Author.Tests.{eq-eqb, ne-eqb, le-leb, lt-leb}
-use Rattle.base_bits.specs.Reader.{got}
+use Rattle.base_bits.specs.Reader.{got, valued}
 use Rattle.base_shared.specs.Choice.{pick}
 use Rattle.part_sampling.specs.declared.Sampling.{Sampling}
 use Rattle.part_sampling.specs.Sampling.{samplingOf}
@@ -28,6 +28,6 @@ pub ruleset picking = (equal, different, reached, missed)
 
 pub sampling-read : (profile space r x y z p : ℕ) (a : Sampling)
     → a ≡ record { «color_range» = rangeOf space r; «subsampling_x» = subsampling profile space x; «subsampling_y» = subsampling profile space y }
-    → got a p ≡ got (samplingOf profile space (record { color-range = r; subsampling-x = x; subsampling-y = y; reserved-zero = z })) p
+    → valued a p ≡ got (samplingOf profile space (record { color-range = r; subsampling-x = x; subsampling-y = y; reserved-zero = z })) p
 unfolding samplingOf
 sampling-read profile space r x y z p a h = rw h

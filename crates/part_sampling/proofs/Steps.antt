@@ -8,7 +8,7 @@ use types.Run.{OneOf}
 use denote.Enum.Declared.{tagOf}
 use Rattle.base_bits.specs.declared.Cursor.{Cursor}
 use Rattle.base_bits.specs.declared.Refusal.the-variants.{PastEnd}
-use Rattle.base_bits.specs.Reader.{Got, Read, refused, bind, over}
+use Rattle.base_bits.specs.Reader.{Got, Read, refused, bind, over, said}
 use Rattle.base_bits.proofs.Steps.{group-step, group-stop}
 use Rattle.part_sampling.specs.declared.Sampling.{Sampling}
 use Rattle.part_sampling.specs.declared.SamplingRead.{SamplingRead}
@@ -24,7 +24,7 @@ no-sampling Unsampled e h = e
 module _ {B D : Type 0} (s : List ℕ) (p : ℕ) (f : B → D) (n m : ℕ) (profile : n ≡ m) where
   module _ (i j : ℕ) (space : i ≡ j) (r : SamplingRead) (k : SamplingValues → ℕ → Read B) (e : viewSampling r ≡ over (samplingOf n i) (readSampling n i s p)) where
     pub sampling-step : (a : Sampling) (c : Cursor) (o : Got D) → r ≡ Sampled a c → ((v : SamplingValues) → a ≡ samplingOf m j v → o ≡ over f (k v (c .at))) → o ≡ over f (bind (readSampling m j s p) k)
-    sampling-step a c o h t = group-step (samplingOf m j) (readSampling m j s p) f k a (c .at) o (rw (h, profile, space) at e) t
+    sampling-step a c o h t = group-step said (samplingOf m j) (readSampling m j s p) f k a (c .at) o (rw (h, profile, space) at e) t
 
     pub sampling-stop : OneOf (1 ∷ []) (tagOf the-sampling r) → refused PastEnd ≡ over f (bind (readSampling m j s p) k)
-    sampling-stop h = group-stop (samplingOf m j) (readSampling m j s p) f k PastEnd (no-sampling r (rw (profile, space) at e) h)
+    sampling-stop h = group-stop said (samplingOf m j) (readSampling m j s p) f k PastEnd (no-sampling r (rw (profile, space) at e) h)

@@ -10,7 +10,7 @@ use borrow.Author.Tests.{eq-eqb, ne-eqb}
 use Rattle.base_bits.specs.declared.Cursor.{Cursor}
 use Rattle.base_bits.specs.declared.Next.{Next}
 use Rattle.base_bits.specs.declared.Next.the-variants.{At, Refused}
-use Rattle.base_bits.specs.Reader.{got, groupIf}
+use Rattle.base_bits.specs.Reader.{got, groupIf, valued}
 use Rattle.grammar_tables.specs.Reading.{noProb}
 use Rattle.grammar_settings.specs.Settings.{probOf}
 use Rattle.base_settings.specs.declared.segmentation.SegmentationParams.{SegmentationParams}
@@ -34,14 +34,14 @@ module _ (b : Bool) (s : List ℕ) (n : ℕ) where
 -- the settings after the map's part
 module _ (old : SegmentationParams) (m u p : ℕ) (t : ProbsValues 7) (v : ProbsValues 3) where
   pub map-read : (tree pred l : List ℕ) → m ≡ 1 → tree ≡ probsOf 7 t → pred ≡ take 3 l → l ≡ probsOf 3 v
-      → got (withMap old (eqb m 1) tree pred (eqb u 1)) p ≡ got (mapOf old (record { update-map = m; tree-probs = t; temporal-update = u; pred-probs = v })) p
+      → valued (withMap old (eqb m 1) tree pred (eqb u 1)) p ≡ got (mapOf old (record { update-map = m; tree-probs = t; temporal-update = u; pred-probs = v })) p
   unfolding mapOf probsOf
   map-read tree pred l em et ep el =
       let three : pred ≡ eachOf probOf 3 v = rw el at ep in
       rw (eq-eqb m 1 em, et, three)
 
   pub map-kept : (m ≡ 1 → ⊥)
-      → got (withMap old (eqb m 1) (old .«tree_probs») (old .«pred_probs») (old .«temporal_update»)) p ≡ got (mapOf old (record { update-map = m; tree-probs = t; temporal-update = u; pred-probs = v })) p
+      → valued (withMap old (eqb m 1) (old .«tree_probs») (old .«pred_probs») (old .«temporal_update»)) p ≡ got (mapOf old (record { update-map = m; tree-probs = t; temporal-update = u; pred-probs = v })) p
   unfolding mapOf
   map-kept nm = rw (ne-eqb m 1 nm)
 

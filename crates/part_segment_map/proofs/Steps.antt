@@ -11,7 +11,7 @@ use Rattle.base_bits.specs.declared.Cursor.{Cursor}
 use Rattle.base_bits.specs.declared.Next.{Next}
 use Rattle.base_bits.specs.declared.Next.the-variants.{At, Refused}
 use Rattle.base_bits.specs.declared.Refusal.{Refusal}
-use Rattle.base_bits.specs.Reader.{Got, Read, bind, over, Reader, groupIf, viewNext}
+use Rattle.base_bits.specs.Reader.{Got, Read, bind, over, Reader, groupIf, viewNext, said}
 use Rattle.base_bits.proofs.Steps.{group-step, group-stop, gave, lacked}
 use Rattle.part_segment_map.specs.declared.ProbsRead.{ProbsRead}
 use Rattle.part_segment_map.specs.Probs.{ProbsValues, probsOf, ProbsAreIf}
@@ -20,10 +20,10 @@ use Rattle.grammar_tables.specs.Reading.{noProbs, readProbs}
 -- an answer that has its place beside its value
 module _ {A B C D : Type 0} (g : A → C) (m : Read A) (f : B → D) (k : A → ℕ → Read B) (v : C) (n : Next) (e : viewNext v n ≡ over g m) where
   pub beside-step : (c : Cursor) (o : Got D) → n ≡ At c → ((a : A) → v ≡ g a → o ≡ over f (k a (c .at))) → o ≡ over f (bind m k)
-  beside-step c o h t = group-step g m f k v (c .at) o (gave v n c e h) t
+  beside-step c o h t = group-step said g m f k v (c .at) o (gave v n c e h) t
 
   pub beside-stop : (w : D) (u : Refusal) → n ≡ Refused u → viewNext w n ≡ over f (bind m k)
-  beside-stop w u h = rw h (group-stop g m f k u (lacked v n u e h))
+  beside-stop w u h = rw h (group-stop said g m f k u (lacked v n u e h))
 
 -- a group that is there only if a test holds: where it is there, and where it isn't
 module _ {A B D : Type 0} (a b : ℕ) (d : A) (r : Reader A) (s : List ℕ) (p : ℕ) (f : B → D) (k : A → ℕ → Read B) where

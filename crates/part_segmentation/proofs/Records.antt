@@ -6,7 +6,7 @@ use lib.Dec.{eqb}
 use Rattle.base_bits.specs.declared.Cursor.{Cursor}
 use Rattle.base_bits.specs.declared.Next.{Next}
 use Rattle.base_bits.specs.declared.Next.the-variants.{At}
-use Rattle.base_bits.specs.Reader.{got, viewNext}
+use Rattle.base_bits.specs.Reader.{got, viewNext, valued}
 use Rattle.base_settings.specs.declared.segmentation.SegmentationParams.{SegmentationParams}
 use Rattle.part_segment_map.specs.Map.{mapOf, MapValues, noMap}
 use Rattle.part_segment_data.specs.Data.{DataValues, noData, dataOf}
@@ -18,7 +18,7 @@ use Rattle.part_segment_data.specs.Features.{featureRows}
 use Rattle.part_segmentation.proofs.Parts.{flatSegmentation}
 
 -- the settings where segmentation is off, and where both parts were read
-pub off-read : (old : SegmentationParams) (e p : ℕ) → got (switched old (eqb e 1)) p ≡ got (segmentationOf false old (flatSegmentation e noMap noData)) p
+pub off-read : (old : SegmentationParams) (e p : ℕ) → valued (switched old (eqb e 1)) p ≡ got (segmentationOf false old (flatSegmentation e noMap noData)) p
 unfolding segmentationOf
 off-read old e p = refl
 

@@ -6,7 +6,7 @@ use mathlib.Core.List.{List}
 use Rattle.base_bits.specs.declared.Cursor.{Cursor}
 use Rattle.base_bits.specs.declared.Next.the-variants.{At, Refused}
 use Rattle.base_bits.specs.declared.Refusal.{Refusal}
-use Rattle.base_bits.specs.Reader.{Got, Read, refused, bind, over}
+use Rattle.base_bits.specs.Reader.{Got, Read, refused, bind, over, said}
 use Rattle.base_bits.proofs.Steps.{group-stop, lacked}
 use Rattle.base_settings.specs.declared.segmentation.SegmentationParams.{SegmentationParams}
 use Rattle.part_segment_map.specs.declared.SegmentationRead.{SegmentationRead}
@@ -23,4 +23,4 @@ module _ {B D : Type 0} (s : List ℕ) (p : ℕ) (f : B → D) where
     segmentation-step = beside-step (segmentationOf false old) (readSegmentation s p) f k (r .seg) (r .next) (e .0)
 
     pub segmentation-stop : (u : Refusal) → r .next ≡ Refused u → refused u ≡ over f (bind (readSegmentation s p) k)
-    segmentation-stop u h = group-stop (segmentationOf false old) (readSegmentation s p) f k u (lacked (r .seg) (r .next) u (e .0) h)
+    segmentation-stop u h = group-stop said (segmentationOf false old) (readSegmentation s p) f k u (lacked (r .seg) (r .next) u (e .0) h)

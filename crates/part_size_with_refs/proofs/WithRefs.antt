@@ -9,7 +9,7 @@ use borrow.Author.Tests.{ne-eqb}
 use lib.ListN.{length, List·getD-eq-default}
 use Rattle.base_bits.specs.declared.Cursor.{Cursor}
 use Rattle.base_bits.specs.declared.Refusal.the-variants.{PastEnd}
-use Rattle.base_bits.specs.Reader.{Got, Read, read, stopped, got, refused, bind, groupIf, over, Reader, give, field, fieldIf, _>>=_}
+use Rattle.base_bits.specs.Reader.{Got, Read, read, stopped, got, refused, bind, groupIf, over, Reader, give, field, fieldIf, _>>=_, said, valued}
 use Rattle.base_shared.specs.Choice.{pick}
 use Rattle.base_bits.proofs.Steps.{group-step, group-stop, tail}
 use Rattle.grammar_tables.specs.Reading.{readRun, noSizeValues, readFrameSize, readRender, readFound}
@@ -103,7 +103,7 @@ module _ (slots : List FrameSize) (refs : Refs) (s : List ℕ) (p : ℕ) (r : Fo
     found-lt = rw h at (e .0)
 
     found-size : (frame : FrameSize) (slot q : ℕ) (a : FoundValues) (b : RenderValues) → i ≡ foundAt a → slot ≡ refSlot refs i → frame ≡ slotSize slots slot
-        → got (withRender frame b) q ≡ got (sizeWithRefsOf slots refs (record { found-ref = a; size = noSizeValues; render = b })) q
+        → valued (withRender frame b) q ≡ got (sizeWithRefsOf slots refs (record { found-ref = a; size = noSizeValues; render = b })) q
     unfolding sizeWithRefsOf
     found-size frame slot q a b ia es ef = rw (← ia, ne-eqb i 3 (λ z. omega (arith, found-lt)), ef, es)
 
@@ -111,17 +111,17 @@ module _ (slots : List FrameSize) (refs : Refs) (s : List ℕ) (p : ℕ) (r : Fo
         → o ≡ over (withRender frame) (readRender s (c .at)) → o ≡ over (sizeWithRefsOf slots refs) (readSizeWithRefs s p)
     unfolding readSizeWithRefs groupIf
     found-at frame slot o es ef eo =
-        group-step foundAt (readFound s p) (sizeWithRefsOf slots refs) _ i (c .at) o (rw h at (e .1)) λ a ia.
+        group-step said foundAt (readFound s p) (sizeWithRefsOf slots refs) _ i (c .at) o (rw h at (e .1)) λ a ia.
         rw (← ia, ne-eqb i 3 (λ z. omega (arith, found-lt)))
-        (tail (sizeWithRefsOf slots refs) _ (withRender frame) (readRender s (c .at)) o eo (λ b q. found-size frame slot q a b ia es ef))
+        (tail said (sizeWithRefsOf slots refs) _ (withRender frame) (readRender s (c .at)) o eo (λ b q. found-size frame slot q a b ia es ef))
 
   -- at none
   pub found-none : (c : Cursor) (o : Got Sizes) → r ≡ Nothing c → o ≡ over sizesOf (readSizes s (c .at)) → o ≡ over (sizeWithRefsOf slots refs) (readSizeWithRefs s p)
   unfolding readSizeWithRefs groupIf readSizes sizesOf sizeWithRefsOf
   found-none c o h eo =
-      group-step foundAt (readFound s p) (sizeWithRefsOf slots refs) _ 3 (c .at) o (rw h at (e .1)) λ a ia.
+      group-step said foundAt (readFound s p) (sizeWithRefsOf slots refs) _ 3 (c .at) o (rw h at (e .1)) λ a ia.
       rw (← ia) (eo ∙ alike _ _ _ _ (readFrameSize s (c .at)) (λ z q. alike _ _ _ _ (readRender s q) (λ b n. rw (← ia))))
 
   pub found-short : r ≡ Short → refused PastEnd ≡ over (sizeWithRefsOf slots refs) (readSizeWithRefs s p)
   unfolding readSizeWithRefs
-  found-short h = group-stop foundAt (readFound s p) (sizeWithRefsOf slots refs) _ PastEnd (rw h at (e .1))
+  found-short h = group-stop said foundAt (readFound s p) (sizeWithRefsOf slots refs) _ PastEnd (rw h at (e .1))

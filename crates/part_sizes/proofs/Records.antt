@@ -6,7 +6,7 @@ use mathlib.Core.Bool.{Bool, true, false}
 use mathlib.Core.List.{List}
 use lib.Dec.{eqb}
 use Rattle.base_bits.specs.declared.Cursor.{Cursor}
-use Rattle.base_bits.specs.Reader.{got, groupIf}
+use Rattle.base_bits.specs.Reader.{got, groupIf, valued}
 use Rattle.base_settings.specs.declared.size.FrameSize.{FrameSize}
 use Rattle.part_sizes.specs.declared.SizeRead.{SizeRead}
 use Rattle.part_sizes.specs.declared.SizeRead.the-variants.{Value as Size}
@@ -17,12 +17,12 @@ use Rattle.part_sizes.specs.Render.{renderOf}
 use Rattle.part_sizes.specs.Sizes.{withRender, sizesOf}
 
 pub render-read : (u : ℕ) (frame z : FrameSize) (a : SizeValues) (p : ℕ) → z ≡ sizeOr (eqb u 1) frame a
-    → got (record { frame = frame; render = record { different = eqb u 1; size = z } }) p ≡ got (withRender frame (record { render-and-frame-size-different = u; size = a })) p
+    → valued (record { frame = frame; render = record { different = eqb u 1; size = z } }) p ≡ got (withRender frame (record { render-and-frame-size-different = u; size = a })) p
 unfolding withRender renderOf
 render-read u frame z a p e = rw e
 
 pub sizes-read : (frame : FrameSize) (a : SizeValues) (b : RenderValues) (p : ℕ) → frame ≡ sizeOf a
-    → got (withRender frame b) p ≡ got (sizesOf (record { size = a; render = b })) p
+    → valued (withRender frame b) p ≡ got (sizesOf (record { size = a; render = b })) p
 unfolding sizesOf
 sizes-read frame a b p e = rw e
 

@@ -7,7 +7,7 @@ use mathlib.Core.List.{List}
 use Rattle.base_bits.specs.declared.Cursor.{Cursor}
 use Rattle.base_bits.specs.declared.Refusal.the-variants.{PastEnd}
 use Rattle.base_bits.specs.Refusal.{Name}
-use Rattle.base_bits.specs.Reader.{Got, Read, refused, bind, groupIf, over}
+use Rattle.base_bits.specs.Reader.{Got, Read, refused, bind, groupIf, over, said}
 use Rattle.base_bits.proofs.Steps.{group-step, group-stop}
 use Rattle.base_settings.specs.declared.size.FrameSize.{FrameSize}
 use Rattle.part_sizes.specs.declared.SizeRead.{SizeRead}
@@ -25,21 +25,21 @@ module _ {B D : Type 0} (s : List ℕ) (p : ℕ) (f : B → D) where
   module _ (r : SizeRead) (x y : Name) (k : SizeValues → ℕ → Read B) where
     module _ (e : SizeIs s p r) where
       pub size-step : (v : FrameSize) (c : Cursor) (o : Got D) → r ≡ Value v c → ((a : SizeValues) → v ≡ sizeOf a → o ≡ over f (k a (c .at))) → o ≡ over f (bind (readSize x y s p) k)
-      size-step v c o h t = group-step sizeOf (readSize x y s p) f k v (c .at) o (rw h at (e x y)) t
+      size-step v c o h t = group-step said sizeOf (readSize x y s p) f k v (c .at) o (rw h at (e x y)) t
 
       pub size-stop : r ≡ Short → refused PastEnd ≡ over f (bind (readSize x y s p) k)
-      size-stop h = group-stop sizeOf (readSize x y s p) f k PastEnd (rw h at (e x y))
+      size-stop h = group-stop said sizeOf (readSize x y s p) f k PastEnd (rw h at (e x y))
 
     module _ (b : Bool) (other : FrameSize) (e : SizeOrIs b other s p r) where
       pub size-or-step : (v : FrameSize) (c : Cursor) (o : Got D) → r ≡ Value v c → ((a : SizeValues) → v ≡ sizeOr b other a → o ≡ over f (k a (c .at))) → o ≡ over f (bind (groupIf b noSizeValues (readSize x y) s p) k)
-      size-or-step v c o h t = group-step (sizeOr b other) (groupIf b noSizeValues (readSize x y) s p) f k v (c .at) o (rw h at (e x y)) t
+      size-or-step v c o h t = group-step said (sizeOr b other) (groupIf b noSizeValues (readSize x y) s p) f k v (c .at) o (rw h at (e x y)) t
 
       pub size-or-stop : r ≡ Short → refused PastEnd ≡ over f (bind (groupIf b noSizeValues (readSize x y) s p) k)
-      size-or-stop h = group-stop (sizeOr b other) (groupIf b noSizeValues (readSize x y) s p) f k PastEnd (rw h at (e x y))
+      size-or-stop h = group-stop said (sizeOr b other) (groupIf b noSizeValues (readSize x y) s p) f k PastEnd (rw h at (e x y))
 
   module _ (r : SizesRead) (k : SizesValues → ℕ → Read B) (e : viewSizes r ≡ over sizesOf (readSizes s p)) where
     pub sizes-step : (v : Sizes) (c : Cursor) (o : Got D) → r ≡ Both v c → ((a : SizesValues) → v ≡ sizesOf a → o ≡ over f (k a (c .at))) → o ≡ over f (bind (readSizes s p) k)
-    sizes-step v c o h t = group-step sizesOf (readSizes s p) f k v (c .at) o (rw h at e) t
+    sizes-step v c o h t = group-step said sizesOf (readSizes s p) f k v (c .at) o (rw h at e) t
 
     pub sizes-stop : r ≡ NoSizes → refused PastEnd ≡ over f (bind (readSizes s p) k)
-    sizes-stop h = group-stop sizesOf (readSizes s p) f k PastEnd (rw h at e)
+    sizes-stop h = group-stop said sizesOf (readSizes s p) f k PastEnd (rw h at e)

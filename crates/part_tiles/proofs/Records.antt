@@ -16,7 +16,7 @@ use Rattle.base_bits.specs.declared.Cursor.{Cursor}
 use Rattle.base_bits.specs.declared.Refusal.{Refusal}
 use Rattle.base_bits.specs.declared.Refusal.the-variants.{PastEnd}
 use Rattle.base_bits.specs.Read.{readBits, readBitsIf}
-use Rattle.base_bits.specs.Reader.{Got, Read, read, stopped, got, refused, over}
+use Rattle.base_bits.specs.Reader.{Got, Read, read, stopped, got, refused, over, valued}
 use Rattle.base_bits.proofs.Steps.{value-lt, value-if-lt}
 use Rattle.grammar_tables.specs.Reading.{readRun, readCols}
 use Rattle.grammar_tables.proofs.Laws.{run-reads, run-few}
@@ -79,7 +79,7 @@ rows-fit w s p q a m x y c d b ex ax ey ay t =
     record { fits = omega (arith, leb→le 3 (2 ^ bits w) t) }
 
 pub tiles-read : (width cols k a m p : ℕ) → cols ≡ colsOf width k
-    → got (record { «cols_log2» = cols; «rows_log2» = a + m }) p
+    → valued (record { «cols_log2» = cols; «rows_log2» = a + m }) p
     ≡ got (tilesOf width (record { increment-tile-cols-log2 = k; tile-rows-log2 = a; increment-tile-rows-log2 = m })) p
 unfolding tilesOf
 tiles-read width cols k a m p e = rw e

@@ -8,7 +8,7 @@ use types.Run.{OneOf}
 use denote.Enum.Declared.{tagOf}
 use Rattle.base_bits.specs.declared.Cursor.{Cursor}
 use Rattle.base_bits.specs.declared.Refusal.the-variants.{PastEnd}
-use Rattle.base_bits.specs.Reader.{Got, Read, refused, bind, over}
+use Rattle.base_bits.specs.Reader.{Got, Read, refused, bind, over, said}
 use Rattle.base_bits.proofs.Steps.{group-step, group-stop}
 use Rattle.part_tiles.specs.declared.Tiles.{Tiles}
 use Rattle.part_tiles.specs.declared.TilesRead.{TilesRead}
@@ -29,14 +29,14 @@ no-tiles Short e h = e
 module _ {B D : Type 0} (width : ℕ) (s : List ℕ) (p : ℕ) (f : B → D) where
   module _ (r : TilesRead) (k : TilesValues → ℕ → Read B) (e : viewTiles r ≡ over (tilesOf width) (readTiles width s p)) where
     pub tiles-step : (t : Tiles) (c : Cursor) (o : Got D) → r ≡ Value t c → ((a : TilesValues) → t ≡ tilesOf width a → o ≡ over f (k a (c .at))) → o ≡ over f (bind (readTiles width s p) k)
-    tiles-step t c o h m = group-step (tilesOf width) (readTiles width s p) f k t (c .at) o (rw h at e) m
+    tiles-step t c o h m = group-step said (tilesOf width) (readTiles width s p) f k t (c .at) o (rw h at e) m
 
     pub tiles-stop : OneOf (1 ∷ []) (tagOf the-type r) → refused PastEnd ≡ over f (bind (readTiles width s p) k)
-    tiles-stop h = group-stop (tilesOf width) (readTiles width s p) f k PastEnd (no-tiles r e h)
+    tiles-stop h = group-stop said (tilesOf width) (readTiles width s p) f k PastEnd (no-tiles r e h)
 
   module _ (r : CountRead) (k : ℕ → ℕ → Read B) (e : viewCount r ≡ over (colsOf width) (readCols width s p)) where
     pub cols-step : (n : ℕ) (c : Cursor) (o : Got D) → r ≡ Count n c → ((a : ℕ) → n ≡ colsOf width a → o ≡ over f (k a (c .at))) → o ≡ over f (bind (readCols width s p) k)
-    cols-step n c o h m = group-step (colsOf width) (readCols width s p) f k n (c .at) o (rw h at e) m
+    cols-step n c o h m = group-step said (colsOf width) (readCols width s p) f k n (c .at) o (rw h at e) m
 
     pub cols-stop : OneOf (1 ∷ []) (tagOf the-count r) → refused PastEnd ≡ over f (bind (readCols width s p) k)
-    cols-stop h = group-stop (colsOf width) (readCols width s p) f k PastEnd (no-count r e h)
+    cols-stop h = group-stop said (colsOf width) (readCols width s p) f k PastEnd (no-count r e h)

@@ -12,7 +12,7 @@ use Rattle.base_bits.specs.declared.Bits.{Bits}
 use Rattle.base_bits.specs.declared.Bits.the-variants.{Value}
 use Rattle.base_bits.specs.declared.Cursor.{Cursor}
 use Rattle.base_bits.specs.Read.{readBits, readBitsIf}
-use Rattle.base_bits.specs.Reader.{got}
+use Rattle.base_bits.specs.Reader.{got, valued}
 use Rattle.base_bits.proofs.Steps.{value-lt, value-if-lt}
 use Rattle.part_traits.specs.Context.{parallelOf, contextOf}
 
@@ -27,7 +27,7 @@ pub parallel-read : (b : Bool) (n : ℕ) → b ≡ false → eqb n 1 ≡ paralle
 parallel-read b n e = rw e
 
 pub context-read : (b t : Bool) (r m i q : ℕ) → t ≡ parallelOf b m
-    → got (record { «refresh_frame_context» = eqb r 1; «frame_parallel_decoding_mode» = t; «frame_context_idx» = i }) q
+    → valued (record { «refresh_frame_context» = eqb r 1; «frame_parallel_decoding_mode» = t; «frame_context_idx» = i }) q
     ≡ got (contextOf b (record { refresh-frame-context = r; frame-parallel-decoding-mode = m; frame-context-idx = i })) q
 unfolding contextOf
 context-read b t r m i q e = rw e

@@ -9,7 +9,7 @@ use types.Run.{OneOf}
 use denote.Enum.Declared.{tagOf}
 use Rattle.base_bits.specs.declared.Cursor.{Cursor}
 use Rattle.base_bits.specs.declared.Refusal.the-variants.{PastEnd}
-use Rattle.base_bits.specs.Reader.{Got, Read, refused, bind, over}
+use Rattle.base_bits.specs.Reader.{Got, Read, refused, bind, over, said}
 use Rattle.base_bits.proofs.Steps.{group-step, group-stop}
 use Rattle.part_traits.specs.declared.Traits.{Traits}
 use Rattle.part_traits.specs.declared.TraitsRead.{TraitsRead}
@@ -33,10 +33,10 @@ no-context Without e h = e
 module _ {B D : Type 0} (s : List ℕ) (p : ℕ) (f : B → D) where
   module _ (r : TraitsRead) (k : TraitsValues → ℕ → Read B) (e : viewTraits r ≡ over traitsOf (readTraits s p)) where
     pub traits-step : (v : Traits) (c : Cursor) (o : Got D) → r ≡ Has v c → ((a : TraitsValues) → v ≡ traitsOf a → o ≡ over f (k a (c .at))) → o ≡ over f (bind (readTraits s p) k)
-    traits-step v c o h t = group-step traitsOf (readTraits s p) f k v (c .at) o (rw h at e) t
+    traits-step v c o h t = group-step said traitsOf (readTraits s p) f k v (c .at) o (rw h at e) t
 
     pub traits-stop : OneOf (1 ∷ []) (tagOf traits-type r) → refused PastEnd ≡ over f (bind (readTraits s p) k)
-    traits-stop h = group-stop traitsOf (readTraits s p) f k PastEnd (no-traits r e h)
+    traits-stop h = group-stop said traitsOf (readTraits s p) f k PastEnd (no-traits r e h)
 
   -- the code's flag and that of the values may be written differently
   module _ (r : ContextRead) (k : ContextValues → ℕ → Read B) (b : Bool) (e : viewContext r ≡ over (contextOf b) (readContext b s p)) (b′ : Bool) (bb : b ≡ b′) where
@@ -44,7 +44,7 @@ module _ {B D : Type 0} (s : List ℕ) (p : ℕ) (f : B → D) where
     said-context = rw bb at e
 
     pub context-step : (v : Context) (c : Cursor) (o : Got D) → r ≡ With v c → ((a : ContextValues) → v ≡ contextOf b′ a → o ≡ over f (k a (c .at))) → o ≡ over f (bind (readContext b′ s p) k)
-    context-step v c o h t = group-step (contextOf b′) (readContext b′ s p) f k v (c .at) o (rw h at said-context) t
+    context-step v c o h t = group-step said (contextOf b′) (readContext b′ s p) f k v (c .at) o (rw h at said-context) t
 
     pub context-stop : OneOf (1 ∷ []) (tagOf context-type r) → refused PastEnd ≡ over f (bind (readContext b′ s p) k)
-    context-stop h = group-stop (contextOf b′) (readContext b′ s p) f k PastEnd (no-context r said-context h)
+    context-stop h = group-stop said (contextOf b′) (readContext b′ s p) f k PastEnd (no-context r said-context h)

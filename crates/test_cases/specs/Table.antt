@@ -39,8 +39,8 @@ pub record Said : Type 0 where
   pub frame : ℕ
   pub frames : List Frame
 
-abbrev pub frameAt : ChunkRead → ℕ → Frame
-frameAt r i =
+abbrev pub theFrame : ChunkRead → ℕ → Frame
+theFrame r i =
     let h = getD (r .headers) i defaultHeader in
     record {
       at = getD (r .at) i 0;
@@ -56,7 +56,7 @@ frameAt r i =
 -- n frames from number j on
 unfoldable pub framesFrom : ChunkRead → ℕ → ℕ → List Frame
 framesFrom r j zero = []
-framesFrom r j (suc n) = frameAt r j ∷ framesFrom r (j + 1) n
+framesFrom r j (suc n) = theFrame r j ∷ framesFrom r (j + 1) n
 
 abbrev pub framesOf : ChunkRead → Answer → List Frame
 framesOf r (answer.Frames n) = framesFrom r 0 n

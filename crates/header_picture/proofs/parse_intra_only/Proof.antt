@@ -1,3 +1,4 @@
+use Rattle.base_bits.specs.Reader.{said}
 use Rattle.base_bits.proofs.Steps.{reading, step}
 use Rattle.part_opening.proofs.Steps.{sync-step, sync-stop}
 use mathlib.Core.Path.{refl}
@@ -73,7 +74,7 @@ returns-5 c =
     let synced = colored .before .before .before .before in
     sync-step _ _ _ _ _ (synced .before .before .parse-frame-sync-code .ensures) _ _ (synced .c1 .given .1) λ n.
     intra-color-step _ _ _ _ _ refl _ _ (colored .before .before .parse-intra-color .ensures) _ _ _ (colored .color .given .1) λ a ea.
-    step _ _ _ _ _ _ _ (flagged .before .before .read-bits .ensures) _ _ _ (flagged .refresh .given .1) tt
+    step said _ _ _ _ _ _ _ (flagged .before .before .read-bits .ensures) _ _ _ (flagged .refresh .given .1) tt
     (sizes-step _ _ _ _ _ (sized .before .before .parse-sizes .ensures) _ _ _ (sized .sizes .given .1) λ b eb.
     intra-only-read _ _ _ _ _ _ _ a b ea eb (c .intra .ensures))
 

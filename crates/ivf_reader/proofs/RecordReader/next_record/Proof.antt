@@ -52,7 +52,7 @@ use Rattle.ivf_file.proofs.RecordRead as S
 use Rattle.ivf_file.proofs.RecordRead.Laws as S′
 use Rattle.ivf_file.proofs.read_record as read-record
 use Rattle.ivf_file.proofs.read_record.Symbol as read-record-def
-use Rattle.ivf_file.proofs.read_record.Symbol.{name as #ivf·read-record}
+use Rattle.ivf_file.proofs.read_record.Symbol.{name as #ivf-file·read-record}
 use Rattle.ivf_file.proofs.read_record.Met as read-record-thm
 use Rattle.ivf_reader.specs.Reader.{readerPlaceAfter, movedOn}
 use Rattle.ivf_reader.specs.declared.RecordReader.{RecordReader}
@@ -60,9 +60,9 @@ use Rattle.ivf_reader.proofs.RecordReader as T
 use Rattle.ivf_reader.proofs.RecordReader.Laws as T′
 use Rattle.ivf_reader.proofs.place_after as place-after
 use Rattle.ivf_reader.proofs.place_after.Symbol as place-after-def
-use Rattle.ivf_reader.proofs.place_after.Symbol.{name as #recording·place-after}
+use Rattle.ivf_reader.proofs.place_after.Symbol.{name as #ivf-reader·place-after}
 use Rattle.ivf_reader.proofs.place_after.Met as place-after-thm
-use Rattle.ivf_reader.proofs.RecordReader.next_record.Key.{name as #recording·next-record}
+use Rattle.ivf_reader.proofs.RecordReader.next_record.Key.{name as #ivf-reader·next-record}
 use Rattle.ivf_reader.proofs.RecordReader.next_record as next-record
 use Rattle.ivf_reader.proofs.RecordReader.next_record.Statement as stated
 use Rattle.ivf_reader.proofs.RecordReader.next_record.Code as code
@@ -166,7 +166,7 @@ module _ {M : Type 1} (𝓤 : URA M) (H : Heap 𝓤) (A : Atoms 𝓤) (W : Given
       says ! (e, ap placed (p ∙ ap (λ (t : RecordRead). readerPlaceAfter t (h .place)) e)) $
       move ! (2 ∷ 3 ∷ []) $ join ! $ frame ! $ feqI ! (List Val) (vptr b o ∷ []) (vptr b o ∷ []) refl $ fjoin3 ! $ nothing ! $ move ! (1 ∷ 0 ∷ []) $ fjoin ! $ done !
 
-  module _ (C : Calls 𝓤 H) (Λ : Loops 𝓤 H) (fm : FmC 𝓤 H (W .laws) C) (known-read : Triple 𝓤 (C #ivf·read-record) (ReadRecord 𝓤 H A at-mem run)) (known-place : Triple 𝓤 (C #recording·place-after) (PlaceAfter 𝓤 H A at-mem run)) where
+  module _ (C : Calls 𝓤 H) (Λ : Loops 𝓤 H) (fm : FmC 𝓤 H (W .laws) C) (known-read : Triple 𝓤 (C #ivf-file·read-record) (ReadRecord 𝓤 H A at-mem run)) (known-place : Triple 𝓤 (C #ivf-reader·place-after) (PlaceAfter 𝓤 H A at-mem run)) where
     walk : ent 𝓤 (onEntry 𝓤 H A next-record.signature (κ, (κ′, tt)) (q, (q′, tt)) a vals) (WpFn 𝓤 H C Λ code.function (vptr b o ∷ []) Post)
     walk =
         qed W ((‵ (flft κ q) ⊛ ‵ (flft κ′ q′) ⊛ ‵ ftrue) ∷ ‵ (owns (MutRef (named 0) κ R ∷ []) a vals) ∷ []) ∵ enter ! C Λ code.function (vptr b o ∷ []) _ $
@@ -209,13 +209,13 @@ module _ {M : Type 1} (𝓤 : URA M) (H : Heap 𝓤) (A : Atoms 𝓤) (W : Given
         keep ! (0 ∷ 1 ∷ 2 ∷ 6 ∷ 5 ∷ []) $ by ! (exits r u n e p)))))))))))))))))
 
 module _ {M : Type 1} (𝓤 : URA M) (H : Heap 𝓤) (A : Atoms 𝓤) (W : Given 𝓤 H A) (mem : Memory → SProp 𝓤) (run : Routine → Fun 𝓤) where
-  next-record-walks : (C : Calls 𝓤 H) (Λ : Loops 𝓤 H) → FmC 𝓤 H (W .laws) C → Triple 𝓤 (C #ivf·read-record) (ReadRecord 𝓤 H A mem run) → Triple 𝓤 (C #recording·place-after) (PlaceAfter 𝓤 H A mem run)
+  next-record-walks : (C : Calls 𝓤 H) (Λ : Loops 𝓤 H) → FmC 𝓤 H (W .laws) C → Triple 𝓤 (C #ivf-file·read-record) (ReadRecord 𝓤 H A mem run) → Triple 𝓤 (C #ivf-reader·place-after) (PlaceAfter 𝓤 H A mem run)
       → Walks 𝓤 H A next-record.ended stayed (WpFn 𝓤 H C Λ code.function) (next-record.clauses 𝓤 H A mem run)
   next-record-walks C Λ fm known-read known-place = walked 𝓤 H A next-record.ended stayed (next-record.clauses 𝓤 H A mem run) (WpFn 𝓤 H C Λ code.function) (λ κs. (ptr-vals, tt)) (λ κs. (mut-tells (named 0) (κs .0) (T.the-row (namedLft 2 1 tt κs)), tt))
       (λ κs qs bounds a g are. via 𝓤 _ (fst∗ 𝓤 _ (emp 𝓤)) (walk 𝓤 H A W mem run (κs .0) (κs .1 .0) (qs .0) (qs .1 .0) bounds (a .0 .ptr .0) (a .0 .ptr .1) (a .0 .name) (a .0 .now) C Λ fm known-read known-place))
 
 next-record-meets : {M : Type 1} (𝓤 : URA M) (H : Heap 𝓤) (A : Atoms 𝓤) (W : Given 𝓤 H A) (mem : Memory → SProp 𝓤) (run : Routine → Fun 𝓤) (𝓣 : Tables 𝓤 H)
-    → Triple 𝓤 (𝓣 .C #ivf·read-record) (ReadRecord 𝓤 H A mem run) → Triple 𝓤 (𝓣 .C #recording·place-after) (PlaceAfter 𝓤 H A mem run)
+    → Triple 𝓤 (𝓣 .C #ivf-file·read-record) (ReadRecord 𝓤 H A mem run) → Triple 𝓤 (𝓣 .C #ivf-reader·place-after) (PlaceAfter 𝓤 H A mem run)
     → Meets 𝓤 H A next-record.signature (WpFn 𝓤 H (𝓣 .C) (𝓣 .Λ) code.function) (next-record.spec 𝓤 H A mem run)
 next-record-meets 𝓤 H A W mem run 𝓣 known-read known-place =
     walk-meets 𝓤 H A next-record.ended stayed W (goes-ref 𝓤 H A W 2 0 tt behind, tt) (next-record.clauses 𝓤 H A mem run)
@@ -225,7 +225,7 @@ pub next-record-spec : {M : Type 1} → stated.statement M
 unfolding code.routine tablesOf
 next-record-spec 𝓤 H 𝓜 𝓖 𝓡 =
     entered 𝓤 H (tripleOf 𝓤 H (𝓖 .A) next-record.signature (next-record.spec 𝓤 H (𝓖 .A) (𝓜 .mem) (𝓡 .run)))
-    (tables 𝓤 H 𝓜 𝓡 code.env .C) (tables 𝓤 H 𝓜 𝓡 code.env .Λ) #recording·next-record code.function (code.unfolded 𝓤 H 𝓜 𝓡)
+    (tables 𝓤 H 𝓜 𝓡 code.env .C) (tables 𝓤 H 𝓜 𝓡 code.env .Λ) #ivf-reader·next-record code.function (code.unfolded 𝓤 H 𝓜 𝓡)
     (next-record-meets 𝓤 H (𝓖 .A) (givenOf 𝓤 H 𝓜 𝓖) (𝓜 .mem) (𝓡 .run) (tablesOf 𝓤 H 𝓜 (tables 𝓤 H 𝓜 𝓡 code.env))
-    (cited 𝓤 H (ReadRecord 𝓤 H (𝓖 .A) (𝓜 .mem) (𝓡 .run)) 𝓜 𝓡 code.env #ivf·read-record read-record-def.routine code.calls-ivf·read-record (read-record-thm.met 𝓤 H 𝓜 𝓖 𝓡))
-    (cited 𝓤 H (PlaceAfter 𝓤 H (𝓖 .A) (𝓜 .mem) (𝓡 .run)) 𝓜 𝓡 code.env #recording·place-after place-after-def.routine code.calls-recording·place-after (place-after-thm.met 𝓤 H 𝓜 𝓖 𝓡)))
+    (cited 𝓤 H (ReadRecord 𝓤 H (𝓖 .A) (𝓜 .mem) (𝓡 .run)) 𝓜 𝓡 code.env #ivf-file·read-record read-record-def.routine code.calls-ivf-file·read-record (read-record-thm.met 𝓤 H 𝓜 𝓖 𝓡))
+    (cited 𝓤 H (PlaceAfter 𝓤 H (𝓖 .A) (𝓜 .mem) (𝓡 .run)) 𝓜 𝓡 code.env #ivf-reader·place-after place-after-def.routine code.calls-ivf-reader·place-after (place-after-thm.met 𝓤 H 𝓜 𝓖 𝓡)))

@@ -38,7 +38,7 @@ use denote.Exit.{yes}
 use Rattle.ivf_reader.specs.declared.RecordReader.{RecordReader}
 use Rattle.ivf_reader.proofs.RecordReader as T
 use Rattle.ivf_reader.proofs.RecordReader.Laws as T′
-use Rattle.ivf_reader.proofs.RecordReader.open.Key.{name as #recording·open}
+use Rattle.ivf_reader.proofs.RecordReader.open.Key.{name as #ivf-reader·open}
 use Rattle.ivf_reader.proofs.RecordReader.open as opened
 use Rattle.ivf_reader.proofs.RecordReader.open.Statement as stated
 use Rattle.ivf_reader.proofs.RecordReader.open.Code as code
@@ -95,5 +95,5 @@ pub open-spec : {M : Type 1} → stated.statement M
 unfolding code.routine tablesOf
 open-spec 𝓤 H 𝓜 𝓖 𝓡 =
     entered 𝓤 H (tripleOf 𝓤 H (𝓖 .A) opened.signature (opened.spec 𝓤 H (𝓖 .A) (𝓜 .mem) (𝓡 .run)))
-    (tables 𝓤 H 𝓜 𝓡 code.env .C) (tables 𝓤 H 𝓜 𝓡 code.env .Λ) #recording·open code.function (code.unfolded 𝓤 H 𝓜 𝓡)
+    (tables 𝓤 H 𝓜 𝓡 code.env .C) (tables 𝓤 H 𝓜 𝓡 code.env .Λ) #ivf-reader·open code.function (code.unfolded 𝓤 H 𝓜 𝓡)
     (open-meets 𝓤 H (𝓖 .A) (givenOf 𝓤 H 𝓜 𝓖) (𝓜 .mem) (𝓡 .run) (tablesOf 𝓤 H 𝓜 (tables 𝓤 H 𝓜 𝓡 code.env)))
