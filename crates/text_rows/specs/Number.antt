@@ -1,7 +1,7 @@
 -- Numbers in a row, and the text of one.
 -- Assumes nothing.
 use Prim.Native.Nat.{ℕ, zero, suc, _+_, _-_}
-use mathlib.Core.Bool.{Bool}
+use mathlib.Core.Bool.{Bool, true, false}
 use mathlib.Core.List.{List, [], _∷_, _++_}
 use lib.Dec.{ltb}
 use lib.IntN.{ℤ, pos, negsuc}
@@ -10,7 +10,8 @@ use Rattle.text_numeral.specs.Ascii.{ascii}
 use Rattle.text_numeral.specs.Numeral.{numeral}
 
 abbrev pub flag : Bool → ℕ
-flag b = pick b 1 0
+flag false = 0
+flag true = 1
 
 -- 65,536 more than the number: no number of 16 bits is below that
 abbrev pub lifted : ℤ → ℕ

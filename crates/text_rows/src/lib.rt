@@ -34,6 +34,19 @@ fn lift_byte(n: i8) -> u32
     lift(n as i16)
 }
 
+// A cast that is asked to fit where it stands needs the ranges of all fields before it.
+fn byte(n: u8) -> u32
+    ensures { λ r. ⌜ r ≡ n ⌝ }
+{
+    n as u32
+}
+
+fn short(n: u16) -> u32
+    ensures { λ r. ⌜ r ≡ n ⌝ }
+{
+    n as u32
+}
+
 // The number that stands as n, in decimal digits behind its sign; the answer is the place after it.
 pub fn put_lowered(out: &mut [u8], at: usize, n: u64) -> usize
     ensures { λ r. ⌜ Written (now (out .entry)) at (loweredText n) r (now (out .exit)) ⌝ }
@@ -169,10 +182,10 @@ pub fn source_row(h: Header) -> [u32; 15]
         h.ref_frame_idx[0] as u32,
         h.ref_frame_idx[1] as u32,
         h.ref_frame_idx[2] as u32,
-        h.ref_frame_sign_bias[0] as u32,
-        h.ref_frame_sign_bias[1] as u32,
-        h.ref_frame_sign_bias[2] as u32,
-        h.ref_frame_sign_bias[3] as u32,
+        byte(h.ref_frame_sign_bias[0]),
+        byte(h.ref_frame_sign_bias[1]),
+        byte(h.ref_frame_sign_bias[2]),
+        byte(h.ref_frame_sign_bias[3]),
         h.allow_high_precision_mv as u32,
         filter.number(),
         h.refresh_frame_context as u32,
@@ -185,11 +198,11 @@ pub fn end_row(h: Header) -> [u32; 5]
     ensures { λ r. ⌜ r ≡ endRow h ⌝ }
 {
     [
-        h.tile_cols_log2 as u32,
-        h.tile_rows_log2 as u32,
+        byte(h.tile_cols_log2),
+        byte(h.tile_rows_log2),
         h.lossless as u32,
-        h.header_size_in_bytes as u32,
-        h.uncompressed_header_size_in_bytes as u32,
+        short(h.header_size_in_bytes),
+        short(h.uncompressed_header_size_in_bytes),
     ]
 }
 
