@@ -32,7 +32,7 @@ loop-less c = search needs
 loop-again : tie.Need-loop-again Inv-loop μ-loop
 loop-again c = search needs
 
-finished-requires : tie.Need-write-text-requires Inv-loop μ-loop
+finished-requires : tie.Need-finished-requires Inv-loop μ-loop
 finished-requires c κs = search needs
 
 same-length : tie.Need-same-length Inv-loop μ-loop
