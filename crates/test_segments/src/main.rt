@@ -151,17 +151,17 @@ fn put_plain(out: &mut [u8], at: usize, n: u64) -> usize {
 }
 
 // Of a record's row the scales and the reference have a sign.
-fn put_nth(out: &mut [u8], at: usize, i: usize, n: u64) -> usize {
+fn put_nth(out: &mut [u8], at: usize, i: usize, n: u32) -> usize {
     match i {
-        8 | 9 | 10 | 11 | 13 => put_lifted(out, at, n),
-        _ => put_plain(out, at, n),
+        8 | 9 | 10 | 11 | 13 => put_lifted(out, at, n as u64),
+        _ => put_plain(out, at, n as u64),
     }
 }
 
 fn put_row(out: &mut [u8], at: usize, s: &[u32]) -> usize {
     let mut next = at;
     for i in 0..s.len() {
-        next = put_nth(out, next, i, s[i] as u64);
+        next = put_nth(out, next, i, s[i]);
     }
     next
 }

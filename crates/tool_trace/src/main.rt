@@ -182,10 +182,14 @@ fn value(form: &[u8], out: &mut [u8], pen: Pen, n: u64) -> Pen {
     put_value(form, out, pen, n)
 }
 
+fn wide(n: u32) -> u64 {
+    n as u64
+}
+
 fn row(form: &[u8], out: &mut [u8], pen: Pen, s: &[u32]) -> Pen {
     let mut next = pen;
     for i in 0..s.len() {
-        next = value(form, out, next, s[i] as u64);
+        next = value(form, out, next, wide(s[i]));
     }
     next
 }
