@@ -395,11 +395,19 @@ fn put_extent(form: &[u8], out: &mut [u8], pen: Pen, place: Place) -> Pen {
     value(form, out, pen, place.size as u64)
 }
 
+fn of_byte(n: u8) -> u64 {
+    n as u64
+}
+
+fn of_short(n: u16) -> u64 {
+    n as u64
+}
+
 fn put_frame_line(form: &[u8], out: &mut [u8], pen: Pen, h: Header) -> Pen {
     let pen = value(form, out, pen, h.width as u64);
     let pen = value(form, out, pen, h.height as u64);
-    let pen = value(form, out, pen, h.refresh_frame_flags as u64);
-    value(form, out, pen, h.uncompressed_header_size_in_bytes as u64)
+    let pen = value(form, out, pen, of_byte(h.refresh_frame_flags));
+    value(form, out, pen, of_short(h.uncompressed_header_size_in_bytes))
 }
 
 // A frame's line, its header and the segment records after it.
@@ -928,7 +936,7 @@ enum Mode {
     Unknown,
 }
 
-fn mode() -> Mode {
+fn asked() -> Mode {
     let words = os::arg_count();
     if words < 2 {
         return Mode::File;
@@ -978,7 +986,7 @@ fn forms(file: bool) {
 }
 
 fn main() {
-    let mode = mode();
+    let mode = asked();
     match mode {
         Mode::File => forms(true),
         Mode::Series => forms(false),
