@@ -1,9 +1,8 @@
 // Standard input and output by blocks, and how a program says that it ended.
 ghost use Prim.Native.Nat.{_+_, _≤_};
 ghost use mathlib.Core.Path.{_≡_};
-ghost use mathlib.Core.Bool.{true};
 ghost use lib.ListN.{length};
-ghost use Rattle.base_stream.specs.Stream.{bytes, endOf, Got, FilledFrom};
+ghost use Rattle.base_stream.specs.Stream.{bytes, endOf, Got, FilledFrom, FrontFilled, hasRoom, RoomFor, EndsAs};
 use libc::EINTR;
 use libc::STDERR_FILENO;
 use libc::STDIN_FILENO;
@@ -81,6 +80,17 @@ pub fn fill(buf: &mut [u8], at: usize) -> Filled
     Filled::Failed
 }
 
+// Reads n bytes to a buffer's front, which is to have room for them.
+pub fn fill_front(buf: &mut [u8], n: usize) -> Filled
+    ensures { λ r. ⌜ FrontFilled (now (buf .entry)) n r (now (buf .exit)) ⌝ }
+{
+    if n > buf.len() {
+        return Filled::Ended(0);
+    }
+    let start = 0;
+    fill(&mut buf[start..n], 0)
+}
+
 // One write of a buffer's bytes from a place to another.
 fn write_some(out: &[u8], at: usize, end: usize) -> Moved
     requires { ⌜ (at ≤ end) × (end ≤ length (now out)) ⌝ }
@@ -100,9 +110,7 @@ fn write_some(out: &[u8], at: usize, end: usize) -> Moved
 }
 
 // Writes a buffer's first n bytes to standard output, and answers whether all of them went out; if not, errno says why.
-pub fn write_front(out: &[u8], n: usize) -> bool
-    ensures { λ r. ⌜ (r ≡ true → n ≤ length (now (out .entry))) ⌝ }
-{
+fn write_front(out: &[u8], n: usize) -> bool {
     if n > out.len() {
         return false;
     }
@@ -122,6 +130,36 @@ pub fn write_front(out: &[u8], n: usize) -> bool
     false
 }
 
+// Where text goes on in a buffer.
+pub enum Room {
+    At(usize),
+    // A write failed, and errno says why.
+    Failed,
+}
+
+fn has_room(size: usize, at: usize, n: usize) -> bool
+    ensures { λ r. ⌜ r ≡ hasRoom size at n ⌝ }
+{
+    if at > size {
+        return false;
+    }
+    size - at >= n
+}
+
+// Makes room for n bytes from `at` on: where fewer are left, what stands before it is written, and the text goes on at 0.
+pub fn make_room(out: &[u8], at: usize, n: usize) -> Room
+    ensures { λ r. ⌜ RoomFor (length (now (out .entry))) at n r ⌝ }
+{
+    if has_room(out.len(), at, n) {
+        return Room::At(at);
+    }
+    if write_front(out, at) {
+        Room::At(0)
+    } else {
+        Room::Failed
+    }
+}
+
 // How a program ended. It can't return a status, so the last line on standard error says it.
 pub enum Ending {
     // It did what was asked.
@@ -131,6 +169,16 @@ pub enum Ending {
     // It couldn't read, or write, for errno's reason.
     Unread,
     Unwritten,
+}
+
+// Writes a buffer's first `at` bytes, which come before the end as it is given.
+pub fn finish(out: &[u8], at: usize, ending: Ending) -> Ending
+    ensures { λ r. ⌜ EndsAs ending r ⌝ }
+{
+    if !write_front(out, at) {
+        return Ending::Unwritten;
+    }
+    ending
 }
 
 fn say(line: &[u8]) {

@@ -23,13 +23,16 @@ use base_enums::TryInterpolationFilter;
 use base_enums::TryProfile;
 use base_enums::TryReferenceFrameType;
 use base_little::Little;
+use base_parts::front;
+use base_parts::rest;
 use base_stream::Ending;
 use base_stream::Filled;
+use base_stream::Room;
+use base_stream::fill_front;
 use ivf_file::Record;
 use ivf_file::RecordRead;
 use test_values::byte_at;
 use test_values::flag_at;
-use test_values::rest;
 
 fn put_number(out: &mut [u8], at: usize, n: u64) -> usize {
     let at = base_bytes::put(out, at, b" ");
@@ -125,15 +128,6 @@ fn number_at(s: &[u8], at: usize) -> u64 {
     n
 }
 
-// The first n bytes, or all where there are fewer.
-fn front(s: &[u8], n: usize) -> &[u8] {
-    if n > s.len() {
-        return s;
-    }
-    let start = 0;
-    &s[start..n]
-}
-
 fn tell_number(out: &mut [u8], at: usize, s: &[u8]) -> usize {
     let n = (number_at(s, 1) % 4294967296) as u32;
     let at = try_kinds(out, at, n);
@@ -209,15 +203,6 @@ fn tell(out: &mut [u8], at: usize, s: &[u8]) -> usize {
 
 // The input.
 
-// Reads n bytes to the buffer's start.
-fn read_data(buf: &mut [u8], n: usize) -> Filled {
-    if n > buf.len() {
-        return Filled::Ended(0);
-    }
-    let start = 0;
-    base_stream::fill(&mut buf[start..n], 0)
-}
-
 // The next record: so many bytes, at the buffer's start. One of no bytes ends the series.
 enum Asked {
     Bytes(usize),
@@ -241,7 +226,7 @@ fn read_asked(buf: &mut [u8]) -> Asked {
     let Little::Value(n) = base_little::read_little(&size, 0, 4) else {
         return Asked::End;
     };
-    let filled = read_data(buf, n as usize);
+    let filled = fill_front(buf, n as usize);
     match filled {
         Filled::Full => of_size(n as usize),
         _ => stopped(filled),
@@ -255,38 +240,10 @@ fn of_size(n: usize) -> Asked {
 // A line takes less: at most a record's bytes and six numbers.
 const ROOM: usize = 131072;
 
-// The text that isn't written yet, up to `at`.
-struct Page {
-    at: usize,
-    broken: bool,
-}
-
-// Writes where there may be no room for the next line.
-fn flushed(out: &[u8], at: usize) -> Page {
-    if at < out.len() {
-        if out.len() - at >= ROOM {
-            return Page { at, broken: false };
-        }
-    }
-    let went_out = base_stream::write_front(out, at);
-    Page {
-        at: 0,
-        broken: !went_out,
-    }
-}
-
 fn end(out: &[u8], at: usize, asked: Asked) -> Ending {
     match asked {
         Asked::Unread => Ending::Unread,
-        _ => finished(out, at),
-    }
-}
-
-fn finished(out: &[u8], at: usize) -> Ending {
-    if base_stream::write_front(out, at) {
-        Ending::Done
-    } else {
-        Ending::Unwritten
+        _ => base_stream::finish(out, at, Ending::Done),
     }
 }
 
@@ -299,11 +256,11 @@ fn tell_all(buf: &mut [u8], out: &mut [u8]) -> Ending {
         let Asked::Bytes(n) = asked else {
             return end(out, at, asked);
         };
-        let page = flushed(out, at);
-        if page.broken {
+        let room = base_stream::make_room(out, at, ROOM);
+        let Room::At(next) = room else {
             return Ending::Unwritten;
-        }
-        at = tell(out, page.at, front(buf, n));
+        };
+        at = tell(out, next, front(buf, n));
         left -= 1;
     }
     Ending::Done

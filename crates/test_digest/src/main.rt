@@ -7,12 +7,15 @@ use base_enums::BitDepth;
 use base_enums::ColorRange;
 use base_enums::ColorSpace;
 use base_little::Little;
+use base_parts::front;
+use base_parts::rest;
 use base_settings::FrameSize;
 use base_settings::LoopFilterParams;
 use base_settings::QuantizationParams;
 use base_settings::SegmentationParams;
 use base_stream::Ending;
 use base_stream::Filled;
+use base_stream::Room;
 use base_types::Header;
 use base_types::MAX_FRAMES_IN_SUPERFRAME;
 use base_types::ReaderState;
@@ -21,7 +24,6 @@ use chunk_answer::ChunkRead;
 use segment_records::Segmentation;
 use test_values::byte_at;
 use test_values::flag_at;
-use test_values::rest;
 use test_values::signed_byte_at;
 
 // A digest takes in numbers one after the other; each function answers the digest that has taken in its value too.
@@ -626,18 +628,11 @@ const LONGEST_LINE: usize = 64;
 
 // Writes where there may be no room for the next line.
 fn flushed(out: &[u8], run: Run) -> Run {
-    let mut next = run;
-    let at = run.at;
-    if at < out.len() {
-        if out.len() - at >= LONGEST_LINE {
-            return next;
-        }
+    let room = base_stream::make_room(out, run.at, LONGEST_LINE);
+    match room {
+        Room::At(at) => run.written(at),
+        Room::Failed => run.unwritten(),
     }
-    if !base_stream::write_front(out, at) {
-        return run.unwritten();
-    }
-    next.at = 0;
-    next
 }
 
 fn unused(input: &[u8], run: Run) -> &[u8] {
@@ -650,15 +645,6 @@ fn unused(input: &[u8], run: Run) -> &[u8] {
         return input;
     }
     &input[start..end]
-}
-
-// The first n bytes. There are never fewer.
-fn front(s: &[u8], n: usize) -> &[u8] {
-    if n > s.len() {
-        return s;
-    }
-    let start = 0;
-    &s[start..n]
 }
 
 // After a turn.
@@ -742,11 +728,7 @@ fn finished(out: &[u8], run: Run) -> Ending {
     if run.unwritten {
         return Ending::Unwritten;
     }
-    if base_stream::write_front(out, run.at) {
-        Ending::Done
-    } else {
-        Ending::Unwritten
-    }
+    base_stream::finish(out, run.at, Ending::Done)
 }
 
 // Nothing says that the input ends, so the turns are counted down.

@@ -8,16 +8,18 @@ use base_enums::ColorSpace;
 use base_enums::FrameType;
 use base_enums::InterpolationFilter;
 use base_enums::Profile;
+use base_parts::rest;
 use base_settings::LoopFilterParams;
 use base_settings::QuantizationParams;
 use base_settings::SegmentationParams;
 use base_stream::Ending;
 use base_stream::Filled;
+use base_stream::Room;
+use base_stream::fill_front;
 use base_types::Header;
 use segment_records::Segmentation;
 use test_values::byte_at;
 use test_values::flag_at;
-use test_values::rest;
 use test_values::signed_byte_at;
 use test_values::signed_short_at;
 
@@ -297,18 +299,9 @@ fn answered(out: &mut [u8], kind: u8, s: &[u8], last: [Segmentation; 8], at: usi
     }
 }
 
-// Reads n bytes to the buffer's start.
-fn read_data(buf: &mut [u8], n: usize) -> Filled {
-    if n > buf.len() {
-        return Filled::Ended(0);
-    }
-    let start = 0;
-    base_stream::fill(&mut buf[start..n], 0)
-}
-
 fn case(out: &mut [u8], kind: u8, last: [Segmentation; 8], at: usize) -> After {
     let mut buf = [255u8; 352];
-    let filled = read_data(&mut buf, length_of(kind));
+    let filled = fill_front(&mut buf, length_of(kind));
     match filled {
         Filled::Failed => unread(last, at),
         _ => answered(out, kind, &buf, last, at),
@@ -339,15 +332,10 @@ const ROOM: usize = 4096;
 
 // Writes where there may be no room for the next case's lines.
 fn turn(out: &mut [u8], last: [Segmentation; 8], at: usize) -> After {
-    if at < out.len() {
-        if out.len() - at >= ROOM {
-            return next_case(out, last, at);
-        }
-    }
-    if base_stream::write_front(out, at) {
-        next_case(out, last, 0)
-    } else {
-        unwritten(last, at)
+    let room = base_stream::make_room(out, at, ROOM);
+    match room {
+        Room::At(next) => next_case(out, last, next),
+        Room::Failed => unwritten(last, at),
     }
 }
 
@@ -358,11 +346,7 @@ fn finished(out: &[u8], after: After) -> Ending {
     if after.unwritten {
         return Ending::Unwritten;
     }
-    if base_stream::write_front(out, after.at) {
-        Ending::Done
-    } else {
-        Ending::Unwritten
-    }
+    base_stream::finish(out, after.at, Ending::Done)
 }
 
 // Nothing says that the input ends, so the cases are counted down.

@@ -1,10 +1,7 @@
 // Values that bytes spell, for the programs of the tests: a byte past the slice's end is 255, a flag is 1 for set, and a
 // number with a sign is a byte, 0 for plus, 1 for minus, else for the least number of its type, and its magnitude, high
 // byte first.
-ghost use Prim.Native.Nat.{_+_, _*_};
 ghost use mathlib.Core.Path.{_≡_};
-ghost use lib.ListN.{drop};
-ghost use lib.Dec.{eqb};
 ghost use Rattle.test_values.specs.Values.{
   byteAt,
   flagAt,
@@ -18,6 +15,7 @@ ghost use Rattle.test_values.specs.Values.{
   depthAt,
 };
 use base_enums::BitDepth;
+use base_parts::rest;
 
 pub fn byte_at(s: &[u8], i: usize) -> u8
     ensures { λ r. ⌜ r ≡ byteAt (now (s .entry)) i ⌝ }
@@ -29,16 +27,6 @@ pub fn flag_at(s: &[u8], i: usize) -> bool
     ensures { λ r. ⌜ r ≡ flagAt (now (s .entry)) i ⌝ }
 {
     byte_at(s, i) == 1
-}
-
-// What stands from `at` on, which is nothing past the end.
-pub fn rest(s: &[u8], at: usize) -> &[u8]
-    ensures { λ r. ⌜ now r ≡ drop at (now (s .entry)) ⌝ }
-{
-    if at > s.len() {
-        return &s[0..0];
-    }
-    &s[at..]
 }
 
 fn signed_8(sign: u8, magnitude: u8) -> i8

@@ -7,6 +7,7 @@ ghost use mathlib.Core.Path.{_≡_};
 ghost use lib.ListN.{length};
 use base_stream::Ending;
 use base_stream::Filled;
+use base_stream::Room;
 use base_types::MAX_FRAMES_IN_SUPERFRAME;
 use base_types::ReaderState;
 use chunk_answer::Answer;
@@ -98,6 +99,11 @@ impl Run {
             self.start = to;
             self.skip = self.skip - at_hand;
         }
+        self
+    }
+
+    fn going_on(mut self, at: usize) -> Run {
+        self.at = at;
         self
     }
 
@@ -201,18 +207,11 @@ const ROOM: usize = 4096;
 
 // Writes where there may be no room for the next lines.
 fn flushed(out: &[u8], run: Run) -> Run {
-    let mut next = run;
-    let at = run.at;
-    if at < out.len() {
-        if out.len() - at >= ROOM {
-            return next;
-        }
+    let room = base_stream::make_room(out, run.at, ROOM);
+    match room {
+        Room::At(at) => run.going_on(at),
+        Room::Failed => run.unwritten(),
     }
-    if !base_stream::write_front(out, at) {
-        return run.unwritten();
-    }
-    next.at = 0;
-    next
 }
 
 // After a turn.
@@ -353,13 +352,10 @@ fn finished(out: &[u8], run: Run) -> Ending {
     if run.unwritten {
         return Ending::Unwritten;
     }
-    if !base_stream::write_front(out, run.at) {
-        return Ending::Unwritten;
-    }
     if run.bad {
-        Ending::Refused
+        base_stream::finish(out, run.at, Ending::Refused)
     } else {
-        Ending::Done
+        base_stream::finish(out, run.at, Ending::Done)
     }
 }
 

@@ -10,12 +10,15 @@ use base_enums::ColorRange;
 use base_enums::ColorSpace;
 use base_enums::FrameType;
 use base_little::Little;
+use base_parts::front;
 use base_settings::FrameSize;
 use base_settings::LoopFilterParams;
 use base_settings::QuantizationParams;
 use base_settings::SegmentationParams;
 use base_stream::Ending;
 use base_stream::Filled;
+use base_stream::Room;
+use base_stream::fill_front;
 use base_types::Header;
 use base_types::ReaderState;
 use chunk_answer::Answer;
@@ -467,19 +470,13 @@ const ROOM: usize = 16384;
 
 // Writes where there may be no room for what comes next.
 fn flushed(out: &[u8], page: Page) -> Page {
-    let at = page.at;
-    if at < out.len() {
-        if out.len() - at >= ROOM {
-            return page;
-        }
-    }
     if page.broken {
-        return Page { at: 0, broken: true };
+        return page;
     }
-    let went_out = base_stream::write_front(out, at);
-    Page {
-        at: 0,
-        broken: !went_out,
+    let room = base_stream::make_room(out, page.at, ROOM);
+    match room {
+        Room::At(at) => Page { at, broken: false },
+        Room::Failed => Page { at: 0, broken: true },
     }
 }
 
@@ -665,15 +662,6 @@ enum Record {
     Long,
 }
 
-// Reads n bytes to the buffer's start.
-fn read_data(buf: &mut [u8], n: usize) -> Filled {
-    if n > buf.len() {
-        return Filled::Ended(0);
-    }
-    let start = 0;
-    base_stream::fill(&mut buf[start..n], 0)
-}
-
 // What stands in a series where it ends early.
 fn stopped(filled: Filled) -> Record {
     match filled {
@@ -691,7 +679,7 @@ fn read_chunk(buf: &mut [u8]) -> Record {
     let Little::Value(n) = base_little::read_little(&size, 0, 4) else {
         return Record::End;
     };
-    let filled = read_data(buf, n as usize);
+    let filled = fill_front(buf, n as usize);
     match filled {
         Filled::Full => Record::Chunk(n as usize),
         _ => stopped(filled),
@@ -748,19 +736,19 @@ fn data(filled: Filled, whole: Record) -> Record {
 fn read_past(buf: &mut [u8], n: u64) -> Record {
     let parts = n / 65536;
     for _ in 0..parts {
-        let filled = read_data(buf, 65536);
+        let filled = fill_front(buf, 65536);
         let Filled::Full = filled else {
             return data(filled, Record::Cut);
         };
     }
-    data(read_data(buf, (n % 65536) as usize), Record::Long)
+    data(fill_front(buf, (n % 65536) as usize), Record::Long)
 }
 
 fn read_file_data(buf: &mut [u8], n: u64) -> Record {
     if n > 65536 {
         return read_past(buf, n);
     }
-    data(read_data(buf, n as usize), Record::Chunk(n as usize))
+    data(fill_front(buf, n as usize), Record::Chunk(n as usize))
 }
 
 fn read_file_record(buf: &mut [u8]) -> Record {
@@ -808,15 +796,6 @@ fn read_record(buf: &mut [u8], file: bool) -> Record {
     }
 }
 
-// The first n bytes. There are never fewer.
-fn front(s: &[u8], n: usize) -> &[u8] {
-    if n > s.len() {
-        return s;
-    }
-    let start = 0;
-    &s[start..n]
-}
-
 fn open_file(form: &[u8], out: &mut [u8]) -> Series {
     let at = put_columns(form, out, 0);
     let page = Page { at, broken: false };
@@ -848,11 +827,7 @@ fn finished(out: &[u8], page: Page, ending: Ending) -> Ending {
     if page.broken {
         return Ending::Unwritten;
     }
-    if base_stream::write_front(out, page.at) {
-        ending
-    } else {
-        Ending::Unwritten
-    }
+    base_stream::finish(out, page.at, ending)
 }
 
 // The end of a file. Refusal 7 prints nothing else.

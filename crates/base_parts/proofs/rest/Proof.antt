@@ -5,8 +5,8 @@ use native.Mathlib.Omega.{arith}
 use lib.ListN.{drop-of-length-le, length-drop}
 use lib.Seq.{take-all}
 use borrow.Author.Needs.{needs}
-use Rattle.test_values.proofs.rest.Statement.{statement}
-use Rattle.test_values.proofs.rest.Tie as tie
+use Rattle.base_parts.proofs.rest.Statement.{statement}
+use Rattle.base_parts.proofs.rest.Tie as tie
 
 sub-result : tie.Need-sub-result
 sub-result c = search needs
