@@ -7,18 +7,24 @@ use base_enums::BitDepth;
 use base_enums::ColorRange;
 use base_enums::ColorSpace;
 use base_little::Little;
+use base_parts::front;
+use base_parts::rest;
 use base_settings::FrameSize;
 use base_settings::LoopFilterParams;
 use base_settings::QuantizationParams;
 use base_settings::SegmentationParams;
+use base_stream::Ending;
+use base_stream::Filled;
+use base_stream::Room;
 use base_types::Header;
 use base_types::MAX_FRAMES_IN_SUPERFRAME;
 use base_types::ReaderState;
 use chunk_answer::Answer;
 use chunk_answer::ChunkRead;
-use libc::STDIN_FILENO;
-use libc::STDOUT_FILENO;
 use segment_records::Segmentation;
+use test_values::byte_at;
+use test_values::flag_at;
+use test_values::signed_byte_at;
 
 // A digest takes in numbers one after the other; each function answers the digest that has taken in its value too.
 
@@ -26,119 +32,51 @@ fn mix(h: u32, x: u32) -> u32 {
     ((h as u64 * 1000003 + x as u64) % 2147483647) as u32
 }
 
-fn byte(h: u32, n: u8) -> u32 {
-    mix(h, n as u32)
-}
-
-fn short(h: u32, n: u16) -> u32 {
-    mix(h, n as u32)
-}
-
 // A place in a chunk or a size, which are never over 65,536.
 fn place(h: u32, n: usize) -> u32 {
     mix(h, (n % 4294967296) as u32)
 }
 
-fn signed(h: u32, n: i16) -> u32 {
-    mix(h, (n as i32 + 65536) as u32)
-}
-
-fn signed_byte(h: u32, n: i8) -> u32 {
-    signed(h, n as i16)
-}
-
-fn flag(h: u32, b: bool) -> u32 {
-    if b { mix(h, 1) } else { mix(h, 0) }
-}
-
-fn bytes(h: u32, s: &[u8]) -> u32 {
+fn row(h: u32, s: &[u32]) -> u32 {
     let mut next = h;
     for i in 0..s.len() {
-        next = byte(next, s[i]);
+        next = mix(next, s[i]);
     }
     next
 }
 
-fn signed_bytes(h: u32, s: &[i8]) -> u32 {
-    let mut next = h;
-    for i in 0..s.len() {
-        next = signed_byte(next, s[i]);
-    }
-    next
-}
-
-fn signed_shorts(h: u32, s: &[i16]) -> u32 {
-    let mut next = h;
-    for i in 0..s.len() {
-        next = signed(next, s[i]);
-    }
-    next
-}
-
-fn flags(h: u32, s: &[bool]) -> u32 {
-    let mut next = h;
-    for i in 0..s.len() {
-        next = flag(next, s[i]);
-    }
-    next
-}
-
-// The records.
+// The records, row by row.
 
 fn colors(h: u32, depth: BitDepth, x: bool, y: bool, space: ColorSpace, range: ColorRange) -> u32 {
-    let h = mix(h, depth.number());
-    let h = flag(h, x);
-    let h = flag(h, y);
-    let h = mix(h, space.number());
-    mix(h, range.number())
-}
-
-fn filter_deltas(h: u32, lf: LoopFilterParams) -> u32 {
-    let update_ref_delta = lf.update_ref_delta;
-    let ref_deltas = lf.ref_deltas;
-    let update_mode_delta = lf.update_mode_delta;
-    let mode_deltas = lf.mode_deltas;
-    let h = flags(h, &update_ref_delta);
-    let h = signed_bytes(h, &ref_deltas);
-    let h = flags(h, &update_mode_delta);
-    signed_bytes(h, &mode_deltas)
+    let s = text_rows::color_row(depth, x, y, space, range);
+    row(h, &s)
 }
 
 fn loop_filter(h: u32, lf: LoopFilterParams) -> u32 {
-    let h = byte(h, lf.level);
-    let h = byte(h, lf.sharpness);
-    let h = flag(h, lf.delta_enabled);
-    let h = flag(h, lf.delta_update);
-    filter_deltas(h, lf)
+    let s = text_rows::filter_row(lf);
+    row(h, &s)
 }
 
 fn quantization(h: u32, q: QuantizationParams) -> u32 {
-    let h = byte(h, q.base_q_idx);
-    let h = signed_byte(h, q.delta_q_y_dc);
-    let h = signed_byte(h, q.delta_q_uv_dc);
-    signed_byte(h, q.delta_q_uv_ac)
+    let s = text_rows::quantization_row(q);
+    row(h, &s)
 }
 
-fn segment_probs(h: u32, seg: SegmentationParams) -> u32 {
-    let tree_probs = seg.tree_probs;
-    let pred_probs = seg.pred_probs;
-    bytes(bytes(h, &tree_probs), &pred_probs)
+fn feature_flags(h: u32, seg: SegmentationParams) -> u32 {
+    let enabled = seg.feature_enabled;
+    let s = text_rows::flag_row(enabled);
+    row(h, &s)
 }
 
-fn segment_features(h: u32, seg: SegmentationParams) -> u32 {
-    let feature_enabled = seg.feature_enabled;
-    let feature_data = seg.feature_data;
-    signed_shorts(flags(h, &feature_enabled), &feature_data)
+fn feature_data(h: u32, seg: SegmentationParams) -> u32 {
+    let data = seg.feature_data;
+    let s = text_rows::data_row(data);
+    row(h, &s)
 }
 
 fn segmentation(h: u32, seg: SegmentationParams) -> u32 {
-    let h = flag(h, seg.enabled);
-    let h = flag(h, seg.update_map);
-    let h = segment_probs(h, seg);
-    let h = flag(h, seg.temporal_update);
-    let h = flag(h, seg.update_data);
-    let h = flag(h, seg.abs_or_delta_update);
-    segment_features(h, seg)
+    let s = text_rows::segmentation_row(seg);
+    feature_data(feature_flags(row(h, &s), seg), seg)
 }
 
 fn header_colors(h: u32, header: Header) -> u32 {
@@ -158,44 +96,18 @@ fn header_colors(h: u32, header: Header) -> u32 {
 }
 
 fn header_picture(h: u32, header: Header) -> u32 {
-    let frame_type = header.frame_type;
-    let h = flag(h, header.show_existing_frame);
-    let h = byte(h, header.frame_to_show_map_idx);
-    let h = byte(h, frame_type.number());
-    let h = flag(h, header.show_frame);
-    let h = flag(h, header.error_resilient_mode);
-    let h = mix(h, header.width);
-    let h = mix(h, header.height);
-    let h = flag(h, header.render_and_frame_size_different);
-    let h = mix(h, header.render_width);
-    mix(h, header.render_height)
-}
-
-fn header_refs(h: u32, header: Header) -> u32 {
-    let ref_frame_idx = header.ref_frame_idx;
-    let ref_frame_sign_bias = header.ref_frame_sign_bias;
-    bytes(bytes(h, &ref_frame_idx), &ref_frame_sign_bias)
+    let s = text_rows::picture_row(header);
+    row(h, &s)
 }
 
 fn header_sources(h: u32, header: Header) -> u32 {
-    let filter = header.interpolation_filter;
-    let h = flag(h, header.intra_only);
-    let h = byte(h, header.reset_frame_context);
-    let h = byte(h, header.refresh_frame_flags);
-    let h = header_refs(h, header);
-    let h = flag(h, header.allow_high_precision_mv);
-    let h = mix(h, filter.number());
-    let h = flag(h, header.refresh_frame_context);
-    let h = flag(h, header.frame_parallel_decoding_mode);
-    byte(h, header.frame_context_idx)
+    let s = text_rows::source_row(header);
+    row(h, &s)
 }
 
 fn header_end(h: u32, header: Header) -> u32 {
-    let h = byte(h, header.tile_cols_log2);
-    let h = byte(h, header.tile_rows_log2);
-    let h = flag(h, header.lossless);
-    let h = short(h, header.header_size_in_bytes);
-    short(h, header.uncompressed_header_size_in_bytes)
+    let s = text_rows::end_row(header);
+    row(h, &s)
 }
 
 fn whole_header(h: u32, header: Header) -> u32 {
@@ -208,14 +120,9 @@ fn whole_header(h: u32, header: Header) -> u32 {
     header_end(h, header)
 }
 
-fn slots(h: u32, s: [FrameSize; ReaderState::REF_FRAMES]) -> u32 {
-    let mut next = h;
-    for i in 0..8usize {
-        let size = s[i];
-        next = mix(next, size.width);
-        next = mix(next, size.height);
-    }
-    next
+fn slots(h: u32, sizes: [FrameSize; ReaderState::REF_FRAMES]) -> u32 {
+    let s = text_rows::slot_row(sizes);
+    row(h, &s)
 }
 
 fn state_digest(st: ReaderState) -> u32 {
@@ -229,20 +136,9 @@ fn state_digest(st: ReaderState) -> u32 {
     slots(h, sizes)
 }
 
-fn segment_levels(h: u32, s: Segmentation) -> u32 {
-    let lvl_lookup = s.lvl_lookup;
-    bytes(h, &lvl_lookup)
-}
-
-fn segment(h: u32, s: Segmentation) -> u32 {
-    let h = segment_levels(h, s);
-    let h = signed(h, s.luma_ac_quant_scale);
-    let h = signed(h, s.luma_dc_quant_scale);
-    let h = signed(h, s.chroma_ac_quant_scale);
-    let h = signed(h, s.chroma_dc_quant_scale);
-    let h = flag(h, s.reference_frame_enabled);
-    let h = signed(h, s.reference_frame);
-    flag(h, s.reference_skip_enabled)
+fn segment(h: u32, record: Segmentation) -> u32 {
+    let s = text_rows::segment_row(record);
+    row(h, &s)
 }
 
 fn segments(h: u32, s: [Segmentation; 8]) -> u32 {
@@ -466,50 +362,6 @@ fn tell_last(s: &[u8], work: Work, series: Series) -> Told {
 
 // The state that 234 bytes spell.
 
-fn byte_at(s: &[u8], i: usize) -> u8 {
-    if i < s.len() { s[i] } else { 0 }
-}
-
-fn flag_at(s: &[u8], i: usize) -> bool {
-    byte_at(s, i) == 1
-}
-
-// What stands from `at` on, which is never past the end.
-fn rest(s: &[u8], at: usize) -> &[u8] {
-    if at > s.len() {
-        return s;
-    }
-    &s[at..]
-}
-
-fn signed_8(sign: u8, magnitude: u8) -> i8 {
-    let m = (magnitude % 128) as i8;
-    match sign {
-        0 => m,
-        1 => -m,
-        _ => -128,
-    }
-}
-
-fn signed_16(sign: u8, high: u8, low: u8) -> i16 {
-    let m = ((high % 128) as u16 * 256 + low as u16) as i16;
-    match sign {
-        0 => m,
-        1 => -m,
-        _ => -32768,
-    }
-}
-
-fn signed_byte_at(s: &[u8], at: usize) -> i8 {
-    let b = rest(s, at);
-    signed_8(byte_at(b, 0), byte_at(b, 1))
-}
-
-fn signed_short_at(s: &[u8], at: usize) -> i16 {
-    let b = rest(s, at);
-    signed_16(byte_at(b, 0), byte_at(b, 1), byte_at(b, 2))
-}
-
 fn number_at(s: &[u8], at: usize) -> u32 {
     let Little::Value(n) = base_little::read_little(s, at, 4) else {
         return 0;
@@ -555,22 +407,6 @@ fn tree_probs_of(s: &[u8]) -> [u8; SegmentationParams::SEG_TREE_PROBS] {
     ]
 }
 
-fn feature_enabled_of(s: &[u8]) -> [bool; SegmentationParams::FEATURES] {
-    let mut out = [false; SegmentationParams::FEATURES];
-    for i in 0..SegmentationParams::FEATURES {
-        out[i] = flag_at(s, i);
-    }
-    out
-}
-
-fn feature_data_of(s: &[u8]) -> [i16; SegmentationParams::FEATURES] {
-    let mut out = [0i16; SegmentationParams::FEATURES];
-    for i in 0..SegmentationParams::FEATURES {
-        out[i] = signed_short_at(s, i * 3);
-    }
-    out
-}
-
 fn segmentation_of(s: &[u8]) -> SegmentationParams {
     SegmentationParams {
         enabled: flag_at(s, 0),
@@ -580,8 +416,8 @@ fn segmentation_of(s: &[u8]) -> SegmentationParams {
         temporal_update: flag_at(s, 12),
         update_data: flag_at(s, 13),
         abs_or_delta_update: flag_at(s, 14),
-        feature_enabled: feature_enabled_of(rest(s, 15)),
-        feature_data: feature_data_of(rest(s, 47)),
+        feature_enabled: test_values::flags_at(s, 15),
+        feature_data: test_values::signed_shorts_at(s, 47),
     }
 }
 
@@ -598,14 +434,6 @@ fn slots_of(s: &[u8]) -> [FrameSize; ReaderState::REF_FRAMES] {
     ]
 }
 
-fn depth_of(n: u8) -> BitDepth {
-    match n {
-        0 => BitDepth::Depth8,
-        1 => BitDepth::Depth10,
-        _ => BitDepth::Depth12,
-    }
-}
-
 fn range_of(full: bool) -> ColorRange {
     if full {
         ColorRange::FullSwing
@@ -616,7 +444,7 @@ fn range_of(full: bool) -> ColorRange {
 
 fn state_of(s: &[u8]) -> ReaderState {
     ReaderState {
-        bit_depth: depth_of(byte_at(s, 0)),
+        bit_depth: test_values::depth_at(s, 0),
         subsampling_x: flag_at(s, 1),
         subsampling_y: flag_at(s, 2),
         color_space: ColorSpace::of_three_bits((byte_at(s, 3) % 8) as u32),
@@ -700,6 +528,8 @@ struct Run {
     ended: bool,
     at: usize,
     going: bool,
+    unread: bool,
+    unwritten: bool,
 }
 
 // The place n bytes on, which is never past the end.
@@ -721,6 +551,8 @@ impl Run {
             ended: false,
             at: 0,
             going: true,
+            unread: false,
+            unwritten: false,
         }
     }
 
@@ -745,20 +577,37 @@ impl Run {
         self.going = false;
         self
     }
+
+    // The input lies at the buffer's front, up to `end`.
+    fn filled(mut self, end: usize, ended: bool) -> Run {
+        self.start = 0;
+        self.end = end;
+        self.ended = ended;
+        self
+    }
+
+    fn unread(mut self) -> Run {
+        self.going = false;
+        self.unread = true;
+        self
+    }
+
+    fn unwritten(mut self) -> Run {
+        self.going = false;
+        self.unwritten = true;
+        self
+    }
 }
 
-// Fills the buffer. The input has ended where it doesn't get full.
+// Fills the buffer.
 fn refilled(input: &mut [u8], run: Run) -> Run {
-    let mut next = run;
     let n = base_buffer::to_front(input, run.start, run.end);
-    if n > input.len() {
-        return next;
+    let filled = base_stream::fill(input, n);
+    match filled {
+        Filled::Full => run.filled(input.len(), false),
+        Filled::Ended(end) => run.filled(end, true),
+        Filled::Failed => run.unread(),
     }
-    let got = io::read_full(STDIN_FILENO, &mut input[n..]);
-    next.start = 0;
-    next.end = n + got;
-    next.ended = n + got < input.len();
-    next
 }
 
 // No record is longer.
@@ -777,27 +626,13 @@ fn filled(input: &mut [u8], run: Run) -> Run {
 // No line is longer.
 const LONGEST_LINE: usize = 64;
 
-// Writes the first n bytes, and answers whether they went out.
-fn write_text(out: &[u8], n: usize) -> bool {
-    if n > out.len() {
-        return false;
-    }
-    let start = 0;
-    io::write_all(STDOUT_FILENO, &out[start..n])
-}
-
-// Writes where there may be no room for the next line. A write that fails ends it.
+// Writes where there may be no room for the next line.
 fn flushed(out: &[u8], run: Run) -> Run {
-    let mut next = run;
-    let at = run.at;
-    if at < out.len() {
-        if out.len() - at >= LONGEST_LINE {
-            return next;
-        }
+    let room = base_stream::make_room(out, run.at, LONGEST_LINE);
+    match room {
+        Room::At(at) => run.written(at),
+        Room::Failed => run.unwritten(),
     }
-    next.going = write_text(out, at);
-    next.at = 0;
-    next
 }
 
 fn unused(input: &[u8], run: Run) -> &[u8] {
@@ -810,15 +645,6 @@ fn unused(input: &[u8], run: Run) -> &[u8] {
         return input;
     }
     &input[start..end]
-}
-
-// The first n bytes. There are never fewer.
-fn front(s: &[u8], n: usize) -> &[u8] {
-    if n > s.len() {
-        return s;
-    }
-    let start = 0;
-    &s[start..n]
 }
 
 // After a turn.
@@ -877,12 +703,36 @@ fn step(s: &[u8], out: &mut [u8], run: Run, series: Series) -> After {
 }
 
 fn turn(input: &mut [u8], out: &mut [u8], before: Run, series: Series) -> After {
-    let run = flushed(out, filled(input, before));
-    step(unused(input, run), out, run, series)
+    let run = flushed(out, before);
+    if run.going {
+        turn_on(input, out, run, series)
+    } else {
+        After { run, series }
+    }
+}
+
+fn turn_on(input: &mut [u8], out: &mut [u8], before: Run, series: Series) -> After {
+    let run = filled(input, before);
+    if run.going {
+        step(unused(input, run), out, run, series)
+    } else {
+        After { run, series }
+    }
+}
+
+// Writes what is left to be written.
+fn finished(out: &[u8], run: Run) -> Ending {
+    if run.unread {
+        return Ending::Unread;
+    }
+    if run.unwritten {
+        return Ending::Unwritten;
+    }
+    base_stream::finish(out, run.at, Ending::Done)
 }
 
 // Nothing says that the input ends, so the turns are counted down.
-fn answer_all(input: &mut [u8], out: &mut [u8]) {
+fn answer_all(input: &mut [u8], out: &mut [u8]) -> Ending {
     let mut run = Run::new();
     let mut series = fresh();
     let mut left = u64::MAX;
@@ -894,7 +744,7 @@ fn answer_all(input: &mut [u8], out: &mut [u8]) {
         series = next_series;
         left -= 1;
     }
-    write_text(out, run.at);
+    finished(out, run)
 }
 
 // Four times what a record may take, so that most of each read is new.
@@ -907,5 +757,6 @@ fn input_buffer() -> [u8; 262144]
 fn main() {
     let mut input = input_buffer();
     let mut out = io::large_buffer();
-    answer_all(&mut input, &mut out);
+    let ending = answer_all(&mut input, &mut out);
+    ending.say();
 }

@@ -1,16 +1,19 @@
-// Lists an IVF file from standard input, as docs/RULES.md shows it, in constant memory. What decides a line stands in `arriving`, `chunk` and `ivf`, and its text in `frame_line` and `listing`.
-// What is read and not used yet lies in the input buffer from `start` to `end`, and the text that is not written yet at the front of the output buffer.
+// Lists an IVF file from standard input, as docs/RULES.md shows it, in constant memory. What decides a line stands in
+// `ivf_arriving`, `chunk_parser` and `ivf_file`, and its text in `text_frame_line` and `text_listing`.
+// What is read and not used yet lies in the input buffer from `start` to `end`, and the text that is not written yet at
+// the front of the output buffer. Once a read or a write fails, nothing more is written.
 ghost use Prim.Native.Nat.{_≤_};
 ghost use mathlib.Core.Path.{_≡_};
 ghost use lib.ListN.{length};
+use base_stream::Ending;
+use base_stream::Filled;
+use base_stream::Room;
 use base_types::MAX_FRAMES_IN_SUPERFRAME;
 use base_types::ReaderState;
 use chunk_answer::Answer;
 use chunk_answer::ChunkRead;
 use ivf_arriving::Next;
 use ivf_file::FileRead;
-use libc::STDIN_FILENO;
-use libc::STDOUT_FILENO;
 
 // What is kept from record to record, besides the reader's state.
 struct Run {
@@ -26,6 +29,10 @@ struct Run {
     chunks: u64,
     refused: u64,
     going: bool,
+    // The file is refused.
+    bad: bool,
+    unread: bool,
+    unwritten: bool,
 }
 
 fn one_more(n: u64) -> u64 {
@@ -54,6 +61,9 @@ impl Run {
             chunks: 0,
             refused: 0,
             going: true,
+            bad: false,
+            unread: false,
+            unwritten: false,
         }
     }
 
@@ -92,6 +102,11 @@ impl Run {
         self
     }
 
+    fn going_on(mut self, at: usize) -> Run {
+        self.at = at;
+        self
+    }
+
     fn accepted(mut self, at: usize) -> Run {
         self.at = at;
         self.chunks = one_more(self.chunks);
@@ -110,20 +125,42 @@ impl Run {
         self.going = false;
         self
     }
+
+    fn bad_at(mut self, at: usize) -> Run {
+        self.bad = true;
+        self.ended_at(at)
+    }
+
+    // The input lies at the buffer's front, up to `end`.
+    fn filled(mut self, end: usize, ended: bool) -> Run {
+        self.start = 0;
+        self.end = end;
+        self.ended = ended;
+        self
+    }
+
+    fn unread(mut self) -> Run {
+        self.going = false;
+        self.unread = true;
+        self
+    }
+
+    fn unwritten(mut self) -> Run {
+        self.going = false;
+        self.unwritten = true;
+        self
+    }
 }
 
-// Fills the buffer. The input has ended where it doesn't get full.
+// Fills the buffer.
 fn refilled(input: &mut [u8], run: Run) -> Run {
-    let mut next = run;
     let n = base_buffer::to_front(input, run.start, run.end);
-    if n > input.len() {
-        return next;
+    let filled = base_stream::fill(input, n);
+    match filled {
+        Filled::Full => run.filled(input.len(), false),
+        Filled::Ended(end) => run.filled(end, true),
+        Filled::Failed => run.unread(),
     }
-    let got = io::read_full(STDIN_FILENO, &mut input[n..]);
-    next.start = 0;
-    next.end = n + got;
-    next.ended = n + got < input.len();
-    next
 }
 
 // The file's header, at the start of what is at hand.
@@ -168,27 +205,13 @@ fn read_chunk(input: &[u8], run: Run, size: usize, state: ReaderState) -> ChunkR
 // The lines of a chunk, with the last two, take less.
 const ROOM: usize = 4096;
 
-// Writes the first n bytes, and answers whether they went out.
-fn write_text(out: &[u8], n: usize) -> bool {
-    if n > out.len() {
-        return false;
-    }
-    let start = 0;
-    io::write_all(STDOUT_FILENO, &out[start..n])
-}
-
-// Writes where there may be no room for the next lines. A write that fails ends it.
+// Writes where there may be no room for the next lines.
 fn flushed(out: &[u8], run: Run) -> Run {
-    let mut next = run;
-    let at = run.at;
-    if at < out.len() {
-        if out.len() - at >= ROOM {
-            return next;
-        }
+    let room = base_stream::make_room(out, run.at, ROOM);
+    match room {
+        Room::At(at) => run.going_on(at),
+        Room::Failed => run.unwritten(),
     }
-    next.going = write_text(out, at);
-    next.at = 0;
-    next
 }
 
 // After a turn.
@@ -200,7 +223,7 @@ struct After {
 // Where the file goes wrong: refusal 8, and the last line.
 fn cut(out: &mut [u8], run: Run) -> Run {
     let at = text_listing::file_refused_line(out, run.at, 8);
-    run.ended_at(text_listing::last_line(out, at, run.chunks, run.refused))
+    run.bad_at(text_listing::last_line(out, at, run.chunks, run.refused))
 }
 
 fn end(out: &mut [u8], run: Run) -> Run {
@@ -298,6 +321,9 @@ fn step(input: &mut [u8], out: &mut [u8], run: Run, state: ReaderState) -> After
 
 fn turn(input: &mut [u8], out: &mut [u8], before: Run, state: ReaderState) -> After {
     let run = flushed(out, before);
+    if !run.going {
+        return with_state(run, state);
+    }
     if run.skip > 0 {
         with_state(pass(input, out, run), state)
     } else {
@@ -308,15 +334,33 @@ fn turn(input: &mut [u8], out: &mut [u8], before: Run, state: ReaderState) -> Af
 // Refusal 7 prints nothing else.
 fn open(input: &mut [u8], out: &mut [u8]) -> Run {
     let run = refilled(input, Run::new());
+    if !run.going {
+        return run;
+    }
     let file = read_header(input, run);
     match file {
         FileRead::Header(_) => run.opened(text_listing::column_line(out, 0)),
-        FileRead::Refused => run.ended_at(text_listing::file_refused_line(out, 0, 7)),
+        FileRead::Refused => run.bad_at(text_listing::file_refused_line(out, 0, 7)),
+    }
+}
+
+// Writes what is left to be written.
+fn finished(out: &[u8], run: Run) -> Ending {
+    if run.unread {
+        return Ending::Unread;
+    }
+    if run.unwritten {
+        return Ending::Unwritten;
+    }
+    if run.bad {
+        base_stream::finish(out, run.at, Ending::Refused)
+    } else {
+        base_stream::finish(out, run.at, Ending::Done)
     }
 }
 
 // Nothing says that the input ends, so the turns are counted down.
-fn list(input: &mut [u8], out: &mut [u8]) {
+fn list(input: &mut [u8], out: &mut [u8]) -> Ending {
     let mut run = open(input, out);
     let mut state = ReaderState::fresh();
     let mut left = u64::MAX;
@@ -328,7 +372,7 @@ fn list(input: &mut [u8], out: &mut [u8]) {
         state = next_state;
         left -= 1;
     }
-    write_text(out, run.at);
+    finished(out, run)
 }
 
 // Four times what a record may take, so that most of each read is new.
@@ -341,5 +385,6 @@ fn input_buffer() -> [u8; 262144]
 fn main() {
     let mut input = input_buffer();
     let mut out = io::large_buffer();
-    list(&mut input, &mut out);
+    let ending = list(&mut input, &mut out);
+    ending.say();
 }

@@ -1,7 +1,8 @@
-// Prints the long form of the listing: of an IVF file, for `bin/list --trace`, or of series of chunks with the state after each, for tests/reader.
-// Standard input: a byte 2 and an IVF file. Or records: a byte 0 starts from a fresh state; a byte 1, four bytes of length, low byte first, and as
-// many bytes are a chunk; a byte 3, eight bytes of offset, eight of size, and a chunk's length and bytes are a single frame of it, which is printed
-// as the only frame of a chunk.
+// Prints the long form of the listing: of the IVF file on standard input, or, with the argument `series`, of series of
+// chunks with the state after each, for tests/reader.
+// A series is records: a byte 0 starts from a fresh state; a byte 1, four bytes of length, low byte first, and as many
+// bytes are a chunk; a byte 3, eight bytes of offset, eight of size, and a chunk's length and bytes are a single frame of
+// it, which is printed as the only frame of a chunk.
 ghost use Prim.Native.Nat.{_≤_};
 ghost use lib.ListN.{length};
 use base_enums::BitDepth;
@@ -9,22 +10,26 @@ use base_enums::ColorRange;
 use base_enums::ColorSpace;
 use base_enums::FrameType;
 use base_little::Little;
+use base_parts::front;
 use base_settings::FrameSize;
 use base_settings::LoopFilterParams;
 use base_settings::QuantizationParams;
 use base_settings::SegmentationParams;
+use base_stream::Ending;
+use base_stream::Filled;
+use base_stream::Room;
+use base_stream::fill_front;
 use base_types::Header;
 use base_types::ReaderState;
 use chunk_answer::Answer;
 use chunk_answer::ChunkRead;
 use ivf_file::FileRead;
-use libc::STDIN_FILENO;
-use libc::STDOUT_FILENO;
+use libc::STDERR_FILENO;
 use segment_records::Segmentation;
 
-// Everything is printed by its form: the text, with marks in it. # stands for a number, ? for true or false, <a|b> for one of some words, and
-// @ ends a form. Each value takes the place up to which its form is printed, prints the text before its mark and itself, and answers the place
-// after its mark. One text holds all forms, since what a text costs to prove grows with the calls beside it.
+// Everything is printed by its form: the text, with marks in it. # stands for a number, % for one with a sign that is
+// lifted as in `text_rows`, ? for true or false, <a|b> for one of some words, and @ ends a form. One text holds all forms;
+// `main` hands it on, since what a text costs to prove grows with the calls beside it.
 
 // The numbers of the forms at which printing starts.
 const REFUSAL: usize = 0;
@@ -45,70 +50,15 @@ const FILE_REFUSED: usize = 10;
 
 const LAST: usize = 11;
 
-// What is done with the forms: a text is printed or skipped up to its mark, or the form is found that has the number given for a place.
-enum Walk {
-    Print,
-    Skip,
-    Form,
-}
-
-fn forms(at: usize, walk: Walk) -> usize {
-    walk_forms(
-        b"# refused # frame #\n@\
-        # # <key|intra|inter|show> # # # # # #\n\
-        \x20 Header { profile: Profile#, bit_depth: Depth#, subsampling_x: ?, subsampling_y: ?, \
-        color_space: <Unknown|Bt601|Bt709|Smpte170|Smpte240|Bt2020|Reserved2|CsSrgb>, color_range: <StudioSwing|FullSwing>, \
-        show_existing_frame: ?, frame_to_show_map_idx: #, frame_type: <KeyFrame|InterFrame>, show_frame: ?, \
-        error_resilient_mode: ?, width: #, height: #, render_and_frame_size_different: ?, render_width: #, \
-        render_height: #, intra_only: ?, reset_frame_context: #, refresh_frame_flags: #, ref_frame_idx: [#, #, #], \
-        ref_frame_sign_bias: [#, #, #, #], allow_high_precision_mv: ?, \
-        interpolation_filter: <EightTap|EightTapSmooth|EightTapSharp|Bilinear|Switchable>, refresh_frame_context: ?, \
-        frame_parallel_decoding_mode: ?, frame_context_idx: #@\
-        , lf: LoopFilterParams { level: #, sharpness: #, delta_enabled: ?, delta_update: ?, \
-        update_ref_delta: [?, ?, ?, ?], ref_deltas: [#, #, #, #], update_mode_delta: [?, ?], mode_deltas: [#, #] }@\
-        , quant: QuantizationParams { base_q_idx: #, delta_q_y_dc: #, delta_q_uv_dc: #, delta_q_uv_ac: # }@\
-        , seg: SegmentationParams { enabled: ?, update_map: ?, tree_probs: [#, #, #, #, #, #, #], \
-        pred_probs: [#, #, #], temporal_update: ?, update_data: ?, abs_or_delta_update: ?, \
-        feature_enabled: [[?, ?, ?, ?], [?, ?, ?, ?], [?, ?, ?, ?], [?, ?, ?, ?], [?, ?, ?, ?], [?, ?, ?, ?], [?, ?, ?, ?], [?, ?, ?, ?]], \
-        feature_data: [[#, #, #, #], [#, #, #, #], [#, #, #, #], [#, #, #, #], [#, #, #, #], [#, #, #, #], [#, #, #, #], [#, #, #, #]] }@\
-        , tile_cols_log2: #, tile_rows_log2: #, lossless: ?, header_size_in_bytes: #, uncompressed_header_size_in_bytes: # }\n@\
-        \x20 seg # Segmentation { lvl_lookup: [[#, #], [#, #], [#, #], [#, #]], luma_ac_quant_scale: #, luma_dc_quant_scale: #, \
-        chroma_ac_quant_scale: #, chroma_dc_quant_scale: #, reference_frame_enabled: ?, reference_frame: #, \
-        reference_skip_enabled: ? }\n@\
-        \x20 state ReaderState { bit_depth: Depth#, subsampling_x: ?, subsampling_y: ?, \
-        color_space: <Unknown|Bt601|Bt709|Smpte170|Smpte240|Bt2020|Reserved2|CsSrgb>, color_range: <StudioSwing|FullSwing>@\
-        , reference_frame_sz: [FrameSize { width: #, height: # }, FrameSize { width: #, height: # }, FrameSize { width: #, height: # }, \
-        FrameSize { width: #, height: # }, FrameSize { width: #, height: # }, FrameSize { width: #, height: # }, \
-        FrameSize { width: #, height: # }, FrameSize { width: #, height: # }] }\n@\
-        chunk frame kind at size width height refresh hdr\n@\
-        file refused #\n@\
-        # chunks # refused\n@",
-        at,
-        walk,
-    )
-}
-
-fn walk_forms(form: &[u8], at: usize, walk: Walk) -> usize {
-    match walk {
-        Walk::Print => {
-            let end = next_mark(form, at);
-            if at <= end {
-                io::write_all(STDOUT_FILENO, &form[at..end]);
-            }
-            after(form, end)
-        }
-        Walk::Skip => after(form, next_mark(form, at)),
-        Walk::Form => nth_form(form, at),
-    }
-}
-
-fn after(form: &[u8], mark: usize) -> usize {
-    if mark < form.len() { mark + 1 } else { mark }
+// A place in the output buffer, up to which it is printed, and one in the forms, up to which they are.
+struct Pen {
+    at: usize,
+    form: usize,
 }
 
 fn is_mark(c: u8) -> bool {
     match c {
-        b'#' | b'?' | b'<' | b'|' | b'>' | b'@' => true,
+        b'#' | b'%' | b'?' | b'<' | b'|' | b'>' | b'@' => true,
         _ => false,
     }
 }
@@ -122,6 +72,10 @@ fn next_mark(form: &[u8], at: usize) -> usize
         }
     }
     form.len()
+}
+
+fn after(form: &[u8], mark: usize) -> usize {
+    if mark < form.len() { mark + 1 } else { mark }
 }
 
 // The start of the n-th form, counted from 0.
@@ -138,401 +92,412 @@ fn nth_form(form: &[u8], n: usize) -> usize {
     form.len()
 }
 
-fn text(at: usize) -> usize {
-    forms(at, Walk::Print)
-}
-
-fn number(at: usize, n: u64) -> usize {
-    let next = text(at);
-    io::print_decimal(STDOUT_FILENO, n);
-    next
-}
-
-fn byte(at: usize, n: u8) -> usize {
-    number(at, n as u64)
-}
-
-fn short(at: usize, n: u16) -> usize {
-    number(at, n as u64)
-}
-
-fn word(at: usize, n: u32) -> usize {
-    number(at, n as u64)
-}
-
-fn print_signed(n: i16) {
-    if n < 0 {
-        io::write_all(STDOUT_FILENO, b"-");
-        io::print_decimal(STDOUT_FILENO, (-(n as i64)) as u64);
-    } else {
-        io::print_decimal(STDOUT_FILENO, n as u64);
+fn start(form: &[u8], at: usize, n: usize) -> Pen {
+    Pen {
+        at,
+        form: nth_form(form, n),
     }
 }
 
-fn signed(at: usize, n: i16) -> usize {
-    let next = text(at);
-    print_signed(n);
+// Prints the text before the next mark. The pen then stands at the mark.
+fn text(form: &[u8], out: &mut [u8], pen: Pen) -> Pen {
+    let from = pen.form;
+    let end = next_mark(form, from);
+    if from > end {
+        return pen;
+    }
+    Pen {
+        at: base_bytes::put(out, pen.at, &form[from..end]),
+        form: end,
+    }
+}
+
+// Behind the mark, with the text up to a place.
+fn passed(form: &[u8], mark: usize, at: usize) -> Pen {
+    Pen {
+        at,
+        form: after(form, mark),
+    }
+}
+
+// The text before the form's end, which is then passed.
+fn ended(form: &[u8], out: &mut [u8], pen: Pen) -> Pen {
+    let pen = text(form, out, pen);
+    passed(form, pen.form, pen.at)
+}
+
+fn mark_at(form: &[u8], at: usize) -> u8 {
+    if at < form.len() { form[at] } else { b'@' }
+}
+
+fn put_flag(out: &mut [u8], at: usize, n: u64) -> usize {
+    if n == 1 {
+        base_bytes::put(out, at, b"true")
+    } else {
+        base_bytes::put(out, at, b"false")
+    }
+}
+
+// Where the k-th of the words starts whose first < is at a place.
+fn word_start(form: &[u8], at: usize, k: u64) -> usize {
+    let mut next = after(form, at);
+    for _ in 0..k {
+        next = after(form, next_mark(form, next));
+    }
     next
 }
 
-fn signed_byte(at: usize, n: i8) -> usize {
-    signed(at, n as i16)
-}
-
-// The k-th of so many words, counted from 0.
-fn choice(at: usize, words: u32, k: u32) -> usize {
-    let mut next = text(at);
-    for i in 0..words {
-        if i == k {
-            next = text(next);
-        } else {
-            next = forms(next, Walk::Skip);
+// The first > from a place on.
+fn words_end(form: &[u8], at: usize) -> usize {
+    for i in at..form.len() {
+        if form[i] == b'>' {
+            return i;
         }
     }
-    next
+    form.len()
 }
 
-fn flag(at: usize, b: bool) -> usize {
-    let next = text(at);
-    if b {
-        io::write_all(STDOUT_FILENO, b"true");
-    } else {
-        io::write_all(STDOUT_FILENO, b"false");
+// The k-th of the words, counted from 0.
+fn put_word(form: &[u8], out: &mut [u8], pen: Pen, k: u64) -> Pen {
+    let word = Pen {
+        at: pen.at,
+        form: word_start(form, pen.form, k),
+    };
+    let word = text(form, out, word);
+    passed(form, words_end(form, word.form), word.at)
+}
+
+// A value, at the mark at which the pen stands.
+fn put_value(form: &[u8], out: &mut [u8], pen: Pen, n: u64) -> Pen {
+    let mark = pen.form;
+    match mark_at(form, mark) {
+        b'#' => passed(form, mark, text_numeral::put_number(out, pen.at, n)),
+        b'%' => passed(form, mark, text_rows::put_lowered(out, pen.at, n)),
+        b'?' => passed(form, mark, put_flag(out, pen.at, n)),
+        b'<' => put_word(form, out, pen, n),
+        _ => pen,
     }
-    next
 }
 
-fn bytes(at: usize, s: &[u8]) -> usize {
-    let mut next = at;
+// The text before the next mark, and the value.
+fn value(form: &[u8], out: &mut [u8], pen: Pen, n: u64) -> Pen {
+    let pen = text(form, out, pen);
+    put_value(form, out, pen, n)
+}
+
+fn wide(n: u32) -> u64 {
+    n as u64
+}
+
+fn row(form: &[u8], out: &mut [u8], pen: Pen, s: &[u32]) -> Pen {
+    let mut next = pen;
     for i in 0..s.len() {
-        next = byte(next, s[i]);
+        next = value(form, out, next, wide(s[i]));
     }
     next
 }
 
-fn signed_bytes(at: usize, s: &[i8]) -> usize {
-    let mut next = at;
-    for i in 0..s.len() {
-        next = signed_byte(next, s[i]);
-    }
-    next
-}
-
-fn signed_shorts(at: usize, s: &[i16]) -> usize {
-    let mut next = at;
-    for i in 0..s.len() {
-        next = signed(next, s[i]);
-    }
-    next
-}
-
-fn flags(at: usize, s: &[bool]) -> usize {
-    let mut next = at;
-    for i in 0..s.len() {
-        next = flag(next, s[i]);
-    }
-    next
-}
-
-// The records.
+// The records, row by row.
 
 fn colors(
-    at: usize,
+    form: &[u8],
+    out: &mut [u8],
+    pen: Pen,
     depth: BitDepth,
     x: bool,
     y: bool,
     space: ColorSpace,
     range: ColorRange,
-) -> usize {
-    let at = word(at, depth.number());
-    let at = flag(at, x);
-    let at = flag(at, y);
-    let at = choice(at, 8, space.number());
-    choice(at, 2, range.number())
+) -> Pen {
+    let s = text_rows::color_row(depth, x, y, space, range);
+    row(form, out, pen, &s)
 }
 
-fn filter_deltas(at: usize, lf: LoopFilterParams) -> usize {
-    let update_ref_delta = lf.update_ref_delta;
-    let ref_deltas = lf.ref_deltas;
-    let update_mode_delta = lf.update_mode_delta;
-    let mode_deltas = lf.mode_deltas;
-    let at = flags(at, &update_ref_delta);
-    let at = signed_bytes(at, &ref_deltas);
-    let at = flags(at, &update_mode_delta);
-    signed_bytes(at, &mode_deltas)
+fn loop_filter(form: &[u8], out: &mut [u8], pen: Pen, lf: LoopFilterParams) -> Pen {
+    let s = text_rows::filter_row(lf);
+    let pen = row(form, out, pen, &s);
+    ended(form, out, pen)
 }
 
-fn loop_filter(at: usize, lf: LoopFilterParams) -> usize {
-    let at = byte(at, lf.level);
-    let at = byte(at, lf.sharpness);
-    let at = flag(at, lf.delta_enabled);
-    let at = flag(at, lf.delta_update);
-    text(filter_deltas(at, lf))
+fn quantization(form: &[u8], out: &mut [u8], pen: Pen, q: QuantizationParams) -> Pen {
+    let s = text_rows::quantization_row(q);
+    let pen = row(form, out, pen, &s);
+    ended(form, out, pen)
 }
 
-fn quantization(at: usize, q: QuantizationParams) -> usize {
-    let at = byte(at, q.base_q_idx);
-    let at = signed_byte(at, q.delta_q_y_dc);
-    let at = signed_byte(at, q.delta_q_uv_dc);
-    text(signed_byte(at, q.delta_q_uv_ac))
+fn feature_flags(form: &[u8], out: &mut [u8], pen: Pen, seg: SegmentationParams) -> Pen {
+    let enabled = seg.feature_enabled;
+    let s = text_rows::flag_row(enabled);
+    row(form, out, pen, &s)
 }
 
-fn segment_probs(at: usize, seg: SegmentationParams) -> usize {
-    let tree_probs = seg.tree_probs;
-    let pred_probs = seg.pred_probs;
-    bytes(bytes(at, &tree_probs), &pred_probs)
+fn feature_data(form: &[u8], out: &mut [u8], pen: Pen, seg: SegmentationParams) -> Pen {
+    let data = seg.feature_data;
+    let s = text_rows::data_row(data);
+    row(form, out, pen, &s)
 }
 
-fn segment_features(at: usize, seg: SegmentationParams) -> usize {
-    let feature_enabled = seg.feature_enabled;
-    let feature_data = seg.feature_data;
-    signed_shorts(flags(at, &feature_enabled), &feature_data)
+fn segmentation(form: &[u8], out: &mut [u8], pen: Pen, seg: SegmentationParams) -> Pen {
+    let s = text_rows::segmentation_row(seg);
+    let pen = row(form, out, pen, &s);
+    let pen = feature_flags(form, out, pen, seg);
+    let pen = feature_data(form, out, pen, seg);
+    ended(form, out, pen)
 }
 
-fn segmentation(at: usize, seg: SegmentationParams) -> usize {
-    let at = flag(at, seg.enabled);
-    let at = flag(at, seg.update_map);
-    let at = segment_probs(at, seg);
-    let at = flag(at, seg.temporal_update);
-    let at = flag(at, seg.update_data);
-    let at = flag(at, seg.abs_or_delta_update);
-    text(segment_features(at, seg))
-}
-
-fn header_colors(at: usize, h: Header) -> usize {
+fn header_colors(form: &[u8], out: &mut [u8], pen: Pen, h: Header) -> Pen {
     let profile = h.profile;
     let depth = h.bit_depth;
     let space = h.color_space;
     let range = h.color_range;
-    let at = word(at, profile.number());
-    colors(at, depth, h.subsampling_x, h.subsampling_y, space, range)
+    let pen = value(form, out, pen, profile.number() as u64);
+    colors(
+        form,
+        out,
+        pen,
+        depth,
+        h.subsampling_x,
+        h.subsampling_y,
+        space,
+        range,
+    )
 }
 
-fn header_picture(at: usize, h: Header) -> usize {
-    let frame_type = h.frame_type;
-    let at = flag(at, h.show_existing_frame);
-    let at = byte(at, h.frame_to_show_map_idx);
-    let at = choice(at, 2, frame_type.number() as u32);
-    let at = flag(at, h.show_frame);
-    let at = flag(at, h.error_resilient_mode);
-    let at = word(at, h.width);
-    let at = word(at, h.height);
-    let at = flag(at, h.render_and_frame_size_different);
-    let at = word(at, h.render_width);
-    word(at, h.render_height)
+fn header_picture(form: &[u8], out: &mut [u8], pen: Pen, h: Header) -> Pen {
+    let s = text_rows::picture_row(h);
+    row(form, out, pen, &s)
 }
 
-fn header_refs(at: usize, h: Header) -> usize {
-    let ref_frame_idx = h.ref_frame_idx;
-    let ref_frame_sign_bias = h.ref_frame_sign_bias;
-    bytes(bytes(at, &ref_frame_idx), &ref_frame_sign_bias)
+fn header_sources(form: &[u8], out: &mut [u8], pen: Pen, h: Header) -> Pen {
+    let s = text_rows::source_row(h);
+    let pen = row(form, out, pen, &s);
+    ended(form, out, pen)
 }
 
-fn header_sources(at: usize, h: Header) -> usize {
-    let filter = h.interpolation_filter;
-    let at = flag(at, h.intra_only);
-    let at = byte(at, h.reset_frame_context);
-    let at = byte(at, h.refresh_frame_flags);
-    let at = header_refs(at, h);
-    let at = flag(at, h.allow_high_precision_mv);
-    let at = choice(at, 5, filter.number());
-    let at = flag(at, h.refresh_frame_context);
-    let at = flag(at, h.frame_parallel_decoding_mode);
-    text(byte(at, h.frame_context_idx))
+fn header_end(form: &[u8], out: &mut [u8], pen: Pen, h: Header) -> Pen {
+    let s = text_rows::end_row(h);
+    let pen = row(form, out, pen, &s);
+    ended(form, out, pen)
 }
 
-fn header_end(at: usize, h: Header) -> usize {
-    let at = byte(at, h.tile_cols_log2);
-    let at = byte(at, h.tile_rows_log2);
-    let at = flag(at, h.lossless);
-    let at = short(at, h.header_size_in_bytes);
-    text(short(at, h.uncompressed_header_size_in_bytes))
+fn put_header(form: &[u8], out: &mut [u8], pen: Pen, h: Header) -> Pen {
+    let pen = header_colors(form, out, pen, h);
+    let pen = header_picture(form, out, pen, h);
+    let pen = header_sources(form, out, pen, h);
+    put_settings(form, out, pen, h)
 }
 
-fn print_header(at: usize, h: Header) -> usize {
-    let at = header_colors(at, h);
-    let at = header_picture(at, h);
-    let at = header_sources(at, h);
-    let at = loop_filter(at, h.lf);
-    let at = quantization(at, h.quant);
-    let at = segmentation(at, h.seg);
-    header_end(at, h)
+fn put_settings(form: &[u8], out: &mut [u8], pen: Pen, h: Header) -> Pen {
+    let pen = loop_filter(form, out, pen, h.lf);
+    let pen = quantization(form, out, pen, h.quant);
+    let pen = segmentation(form, out, pen, h.seg);
+    header_end(form, out, pen, h)
 }
 
-fn state_colors(st: ReaderState) {
+fn state_colors(form: &[u8], out: &mut [u8], at: usize, st: ReaderState) -> usize {
     let depth = st.bit_depth;
     let space = st.color_space;
     let range = st.color_range;
-    let at = forms(STATE, Walk::Form);
-    text(colors(at, depth, st.subsampling_x, st.subsampling_y, space, range));
+    let pen = start(form, at, STATE);
+    let pen = colors(form, out, pen, depth, st.subsampling_x, st.subsampling_y, space, range);
+    let pen = ended(form, out, pen);
+    pen.at
 }
 
-fn print_slots(s: [FrameSize; ReaderState::REF_FRAMES]) {
-    let mut at = forms(SLOTS, Walk::Form);
+fn slots(
+    form: &[u8],
+    out: &mut [u8],
+    at: usize,
+    sizes: [FrameSize; ReaderState::REF_FRAMES],
+) -> usize {
+    let s = text_rows::slot_row(sizes);
+    let pen = start(form, at, SLOTS);
+    let pen = row(form, out, pen, &s);
+    let pen = ended(form, out, pen);
+    pen.at
+}
+
+fn state_filter(form: &[u8], out: &mut [u8], at: usize, lf: LoopFilterParams) -> usize {
+    let pen = start(form, at, FILTER);
+    let pen = loop_filter(form, out, pen, lf);
+    pen.at
+}
+
+fn state_segmentation(form: &[u8], out: &mut [u8], at: usize, seg: SegmentationParams) -> usize {
+    let pen = start(form, at, SEGMENTATION);
+    let pen = segmentation(form, out, pen, seg);
+    pen.at
+}
+
+fn put_state(form: &[u8], out: &mut [u8], at: usize, st: ReaderState) -> usize {
+    let at = state_colors(form, out, at, st);
+    let at = state_filter(form, out, at, st.lf);
+    let at = state_segmentation(form, out, at, st.seg);
+    let sizes = st.reference_frame_sz;
+    slots(form, out, at, sizes)
+}
+
+fn put_segment(form: &[u8], out: &mut [u8], pen: Pen, i: usize, record: Segmentation) -> usize {
+    let s = text_rows::segment_row(record);
+    let pen = value(form, out, pen, i as u64);
+    let pen = row(form, out, pen, &s);
+    let pen = ended(form, out, pen);
+    pen.at
+}
+
+// A line for each.
+fn put_segments(form: &[u8], out: &mut [u8], pen: Pen, s: [Segmentation; 8]) -> usize {
+    let mut at = pen.at;
     for i in 0..8usize {
-        let size = s[i];
-        at = word(at, size.width);
-        at = word(at, size.height);
+        let line = Pen {
+            at,
+            form: pen.form,
+        };
+        at = put_segment(form, out, line, i, s[i]);
     }
-    text(at);
-}
-
-fn print_state(st: ReaderState) {
-    state_colors(st);
-    loop_filter(forms(FILTER, Walk::Form), st.lf);
-    segmentation(forms(SEGMENTATION, Walk::Form), st.seg);
-    let slots = st.reference_frame_sz;
-    print_slots(slots);
-}
-
-fn segment_levels(at: usize, s: Segmentation) -> usize {
-    let lvl_lookup = s.lvl_lookup;
-    bytes(at, &lvl_lookup)
-}
-
-fn print_segment(at: usize, i: u32, s: Segmentation) {
-    let at = word(at, i);
-    let at = segment_levels(at, s);
-    let at = signed(at, s.luma_ac_quant_scale);
-    let at = signed(at, s.luma_dc_quant_scale);
-    let at = signed(at, s.chroma_ac_quant_scale);
-    let at = signed(at, s.chroma_dc_quant_scale);
-    let at = flag(at, s.reference_frame_enabled);
-    let at = signed(at, s.reference_frame);
-    text(flag(at, s.reference_skip_enabled));
-}
-
-fn print_segments(at: usize, s: [Segmentation; 8]) {
-    for i in 0..8u32 {
-        print_segment(at, i, s[i as usize]);
-    }
+    at
 }
 
 // The answers.
 
-fn kind(h: Header) -> u32 {
+fn kind(h: Header) -> u64 {
     let frame_type = h.frame_type;
     if h.show_existing_frame {
         return 3;
     }
     match frame_type {
         FrameType::KeyFrame => 0,
-        FrameType::InterFrame => { if h.intra_only { 1 } else { 2 } }
+        FrameType::InterFrame => {
+            if h.intra_only {
+                1
+            } else {
+                2
+            }
+        }
     }
 }
 
-fn print_place(chunk: u64, frame: usize, kind: u32, at: usize, size: usize) -> usize {
-    let next = number(forms(FRAME, Walk::Form), chunk);
-    let next = number(next, frame as u64);
-    let next = choice(next, 4, kind);
-    let next = number(next, at as u64);
-    number(next, size as u64)
-}
-
-// A frame's line and its header.
-fn print_frame(at: usize, h: Header) -> usize {
-    let at = word(at, h.width);
-    let at = word(at, h.height);
-    let at = byte(at, h.refresh_frame_flags);
-    let at = short(at, h.uncompressed_header_size_in_bytes);
-    print_header(at, h)
-}
-
-// The i-th frame with the segment records after it, which are handed on.
-fn list_frame(
+// A frame's numbers, and its place and size in its chunk.
+struct Place {
     chunk: u64,
-    i: usize,
+    frame: usize,
     at: usize,
     size: usize,
-    h: Header,
-    old: [Segmentation; 8],
-) -> [Segmentation; 8] {
-    let segments = Segmentation::update_segmentation(old, h);
-    let next = print_place(chunk, i, kind(h), at, size);
-    print_segments(print_frame(next, h), segments);
-    segments
 }
 
-// There are never more than eight.
-fn list_nth(chunk: u64, i: usize, read: ChunkRead, old: [Segmentation; 8]) -> [Segmentation; 8] {
-    if i >= 8 {
-        return old;
-    }
-    let h = read.headers[i];
-    list_frame(chunk, i, read.at[i], read.size[i], h, old)
+fn put_place(form: &[u8], out: &mut [u8], at: usize, place: Place, h: Header) -> Pen {
+    let pen = start(form, at, FRAME);
+    let pen = value(form, out, pen, place.chunk);
+    let pen = value(form, out, pen, place.frame as u64);
+    let pen = value(form, out, pen, kind(h));
+    put_extent(form, out, pen, place)
 }
 
-fn print_frames(
-    chunk: u64,
-    frames: usize,
-    read: ChunkRead,
-    old: [Segmentation; 8],
-) -> [Segmentation; 8] {
-    let mut segments = old;
-    for i in 0..frames {
-        let after = list_nth(chunk, i, read, segments);
-        segments = after;
-    }
-    segments
+fn put_extent(form: &[u8], out: &mut [u8], pen: Pen, place: Place) -> Pen {
+    let pen = value(form, out, pen, place.at as u64);
+    value(form, out, pen, place.size as u64)
 }
 
-fn print_refusal(chunk: u64, refusal: u8, frame: usize) {
-    let at = number(forms(REFUSAL, Walk::Form), chunk);
-    let at = byte(at, refusal);
-    text(number(at, frame as u64));
+fn of_byte(n: u8) -> u64 {
+    n as u64
 }
 
-fn print_answer(chunk: u64, read: ChunkRead, segments: [Segmentation; 8]) -> [Segmentation; 8] {
-    let answer = read.answer;
-    let Answer::Frames(n) = answer else {
-        print_refusal(chunk, answer.number(), answer.frame());
-        return segments;
-    };
-    print_frames(chunk, n, read, segments)
+fn of_short(n: u16) -> u64 {
+    n as u64
 }
 
-fn print_single(
-    chunk: u64,
-    number: u8,
-    size: usize,
+fn put_frame_line(form: &[u8], out: &mut [u8], pen: Pen, h: Header) -> Pen {
+    let pen = value(form, out, pen, h.width as u64);
+    let pen = value(form, out, pen, h.height as u64);
+    let pen = value(form, out, pen, of_byte(h.refresh_frame_flags));
+    value(form, out, pen, of_short(h.uncompressed_header_size_in_bytes))
+}
+
+// A frame's line, its header and the segment records after it.
+fn put_frame(
+    form: &[u8],
+    out: &mut [u8],
+    at: usize,
+    place: Place,
     h: Header,
     segments: [Segmentation; 8],
-) -> [Segmentation; 8] {
-    if number == 0 {
-        list_frame(chunk, 0, 0, size, h, segments)
-    } else {
-        print_refusal(chunk, number, 0);
-        segments
+) -> usize {
+    let pen = put_place(form, out, at, place, h);
+    let pen = put_frame_line(form, out, pen, h);
+    let pen = put_header(form, out, pen, h);
+    put_segments(form, out, pen, segments)
+}
+
+fn put_refusal(form: &[u8], out: &mut [u8], at: usize, chunk: u64, refusal: u8, frame: usize) -> usize {
+    let pen = start(form, at, REFUSAL);
+    let pen = value(form, out, pen, chunk);
+    let pen = value(form, out, pen, refusal as u64);
+    let pen = value(form, out, pen, frame as u64);
+    let pen = ended(form, out, pen);
+    pen.at
+}
+
+fn put_columns(form: &[u8], out: &mut [u8], at: usize) -> usize {
+    let pen = start(form, at, COLUMNS);
+    let pen = ended(form, out, pen);
+    pen.at
+}
+
+fn put_file_refused(form: &[u8], out: &mut [u8], at: usize, number: u64) -> usize {
+    let pen = start(form, at, FILE_REFUSED);
+    let pen = value(form, out, pen, number);
+    let pen = ended(form, out, pen);
+    pen.at
+}
+
+fn put_last(form: &[u8], out: &mut [u8], at: usize, chunks: u64, refused: u64) -> usize {
+    let pen = start(form, at, LAST);
+    let pen = value(form, out, pen, chunks);
+    let pen = value(form, out, pen, refused);
+    let pen = ended(form, out, pen);
+    pen.at
+}
+
+// The text that isn't written yet, up to `at` in the output buffer. Once a write failed nothing more is written.
+struct Page {
+    at: usize,
+    broken: bool,
+}
+
+// What is printed between two looks at the room takes less: a frame's line, header and eight segment lines at most 6,288
+// bytes, with twenty digits to every number, a state's line 1,981, the last lines 91.
+const ROOM: usize = 16384;
+
+// Writes where there may be no room for what comes next.
+fn flushed(out: &[u8], page: Page) -> Page {
+    if page.broken {
+        return page;
+    }
+    let room = base_stream::make_room(out, page.at, ROOM);
+    match room {
+        Room::At(at) => Page { at, broken: false },
+        Room::Failed => Page { at: 0, broken: true },
     }
 }
 
-fn print_columns() {
-    text(forms(COLUMNS, Walk::Form));
-}
-
-fn print_file_refused(number: u8) {
-    text(byte(forms(FILE_REFUSED, Walk::Form), number));
-}
-
-fn print_last(chunks: u64, refused: u64) {
-    text(number(number(forms(LAST, Walk::Form), chunks), refused));
-}
-
-// What is remembered from chunk to chunk: the number of the next one, how many were refused, the reader's state and the segment records.
+// What is remembered from chunk to chunk: the number of the next one, how many were refused, the reader's state and the
+// segment records.
 struct Series {
     // Of an IVF file, whose states aren't printed.
     file: bool,
     chunk: u64,
     refused: u64,
+    page: Page,
     state: ReaderState,
     segments: [Segmentation; 8],
 }
 
-fn fresh(file: bool) -> Series {
+fn fresh(file: bool, page: Page) -> Series {
     Series {
         file,
         chunk: 0,
         refused: 0,
+        page,
         state: ReaderState::fresh(),
         segments: [Segmentation::default(); 8],
     }
@@ -546,54 +511,140 @@ fn refused_after(n: u64, number: u8) -> u64 {
     if number == 0 { n } else { one_more(n) }
 }
 
-fn answer_chunk(s: &[u8], series: Series) -> Series {
-    let read = chunk_parser::parse_chunk(s, series.state);
-    let old = series.segments;
-    let segments = print_answer(series.chunk, read, old);
-    let state = read.state;
-    let answer = read.answer;
-    if !series.file {
-        print_state(state);
+// Some frames listed: the text, and the segment records after them.
+struct Listed {
+    page: Page,
+    segments: [Segmentation; 8],
+}
+
+fn list_frame(form: &[u8], out: &mut [u8], place: Place, h: Header, before: Listed) -> Listed {
+    let old = before.segments;
+    let segments = Segmentation::update_segmentation(old, h);
+    let page = flushed(out, before.page);
+    let at = put_frame(form, out, page.at, place, h, segments);
+    let page = Page {
+        at,
+        broken: page.broken,
+    };
+    Listed { page, segments }
+}
+
+// There are never more than eight.
+fn list_nth(form: &[u8], out: &mut [u8], chunk: u64, i: usize, read: ChunkRead, before: Listed) -> Listed {
+    if i >= 8 {
+        return before;
     }
-    Series {
-        file: series.file,
-        chunk: one_more(series.chunk),
-        refused: refused_after(series.refused, answer.number()),
-        state,
-        segments,
+    let h = read.headers[i];
+    let place = Place {
+        chunk,
+        frame: i,
+        at: read.at[i],
+        size: read.size[i],
+    };
+    list_frame(form, out, place, h, before)
+}
+
+fn list_frames(form: &[u8], out: &mut [u8], chunk: u64, frames: usize, read: ChunkRead, before: Listed) -> Listed {
+    let mut listed = before;
+    for i in 0..frames {
+        let after = list_nth(form, out, chunk, i, read, listed);
+        listed = after;
+    }
+    listed
+}
+
+fn list_refusal(form: &[u8], out: &mut [u8], chunk: u64, refusal: u8, frame: usize, before: Listed) -> Listed {
+    let page = flushed(out, before.page);
+    let at = put_refusal(form, out, page.at, chunk, refusal, frame);
+    let page = Page {
+        at,
+        broken: page.broken,
+    };
+    let segments = before.segments;
+    Listed { page, segments }
+}
+
+fn list_answer(form: &[u8], out: &mut [u8], chunk: u64, read: ChunkRead, before: Listed) -> Listed {
+    let answer = read.answer;
+    let Answer::Frames(n) = answer else {
+        return list_refusal(form, out, chunk, answer.number(), answer.frame(), before);
+    };
+    list_frames(form, out, chunk, n, read, before)
+}
+
+fn list_single(form: &[u8], out: &mut [u8], number: u8, place: Place, h: Header, before: Listed) -> Listed {
+    if number == 0 {
+        list_frame(form, out, place, h, before)
+    } else {
+        list_refusal(form, out, place.chunk, number, 0, before)
     }
 }
 
-fn answer_frame(s: &[u8], offset: usize, size: usize, series: Series) -> Series {
-    let read = chunk_frame::parse_frame(s, offset, size, series.state);
-    let place = read.place;
-    let header = read.header;
-    let state = read.state;
-    let old = series.segments;
-    let number = place.number();
-    let segments = print_single(series.chunk, number, size, header, old);
-    print_state(state);
+// The state, where it is printed.
+fn list_state(form: &[u8], out: &mut [u8], file: bool, state: ReaderState, before: Page) -> Page {
+    if file {
+        return before;
+    }
+    let page = flushed(out, before);
+    let at = put_state(form, out, page.at, state);
+    Page {
+        at,
+        broken: page.broken,
+    }
+}
+
+fn listed_before(series: Series) -> Listed {
+    let page = series.page;
+    let segments = series.segments;
+    Listed { page, segments }
+}
+
+// After a chunk, with the number of its refusal, 0 for none.
+fn after_chunk(series: Series, number: u8, page: Page, state: ReaderState, segments: [Segmentation; 8]) -> Series {
     Series {
         file: series.file,
         chunk: one_more(series.chunk),
         refused: refused_after(series.refused, number),
+        page,
         state,
         segments,
     }
 }
 
+fn answer_chunk(form: &[u8], s: &[u8], out: &mut [u8], series: Series) -> Series {
+    let read = chunk_parser::parse_chunk(s, series.state);
+    let listed = list_answer(form, out, series.chunk, read, listed_before(series));
+    let state = read.state;
+    let answer = read.answer;
+    let page = list_state(form, out, series.file, state, listed.page);
+    let segments = listed.segments;
+    after_chunk(series, answer.number(), page, state, segments)
+}
+
+fn answer_frame(form: &[u8], s: &[u8], out: &mut [u8], offset: usize, size: usize, series: Series) -> Series {
+    let read = chunk_frame::parse_frame(s, offset, size, series.state);
+    let verdict = read.place;
+    let place = Place {
+        chunk: series.chunk,
+        frame: 0,
+        at: 0,
+        size,
+    };
+    let header = read.header;
+    let listed = list_single(form, out, verdict.number(), place, header, listed_before(series));
+    let state = read.state;
+    let page = list_state(form, out, series.file, state, listed.page);
+    let segments = listed.segments;
+    after_chunk(series, verdict.number(), page, state, segments)
+}
+
 // Refusal 9.
-fn pass_chunk(series: Series) -> Series {
-    print_refusal(series.chunk, 9, 0);
+fn pass_chunk(form: &[u8], out: &mut [u8], series: Series) -> Series {
+    let listed = list_refusal(form, out, series.chunk, 9, 0, listed_before(series));
+    let page = listed.page;
+    let segments = listed.segments;
     let state = series.state;
-    let segments = series.segments;
-    Series {
-        file: series.file,
-        chunk: one_more(series.chunk),
-        refused: one_more(series.refused),
-        state,
-        segments,
-    }
+    after_chunk(series, 9, page, state, segments)
 }
 
 // A record of the input: a chunk is so many bytes at the buffer's start.
@@ -603,46 +654,44 @@ enum Record {
     // A single frame of such a chunk, at an offset and of a size.
     Frame(usize, usize, usize),
     End,
-    // An IVF file begins.
+    Unread,
+    // Of an IVF file: its header, and the refusals 7, 8 and 9.
     File,
-    // Its refusals 7, 8 and 9.
     NoFile,
     Cut,
     Long,
 }
 
-// Reads n bytes to the buffer's start, and answers whether they were there.
-fn read_data(buf: &mut [u8], n: usize) -> bool {
-    if n > buf.len() {
-        return false;
+// What stands in a series where it ends early.
+fn stopped(filled: Filled) -> Record {
+    match filled {
+        Filled::Failed => Record::Unread,
+        _ => Record::End,
     }
-    let start = 0;
-    let got = io::read_full(STDIN_FILENO, &mut buf[start..n]);
-    got == n
 }
 
 fn read_chunk(buf: &mut [u8]) -> Record {
     let mut size = [0u8; 4];
-    let got = io::read_full(STDIN_FILENO, &mut size);
-    if got < 4 {
-        return Record::End;
-    }
+    let filled = base_stream::fill(&mut size, 0);
+    let Filled::Full = filled else {
+        return stopped(filled);
+    };
     let Little::Value(n) = base_little::read_little(&size, 0, 4) else {
         return Record::End;
     };
-    if read_data(buf, n as usize) {
-        Record::Chunk(n as usize)
-    } else {
-        Record::End
+    let filled = fill_front(buf, n as usize);
+    match filled {
+        Filled::Full => Record::Chunk(n as usize),
+        _ => stopped(filled),
     }
 }
 
 fn read_frame(buf: &mut [u8]) -> Record {
     let mut place = [0u8; 16];
-    let got = io::read_full(STDIN_FILENO, &mut place);
-    if got < 16 {
-        return Record::End;
-    }
+    let filled = base_stream::fill(&mut place, 0);
+    let Filled::Full = filled else {
+        return stopped(filled);
+    };
     let Little::Value(offset) = base_little::read_little(&place, 0, 8) else {
         return Record::End;
     };
@@ -652,20 +701,34 @@ fn read_frame(buf: &mut [u8]) -> Record {
     let chunk = read_chunk(buf);
     match chunk {
         Record::Chunk(n) => Record::Frame(n, offset as usize, size as usize),
-        _ => Record::End,
+        _ => chunk,
     }
 }
 
 fn read_file_header() -> Record {
     let mut head = [0u8; 32];
-    let got = io::read_full(STDIN_FILENO, &mut head);
-    if got < 32 {
-        return Record::NoFile;
+    let filled = base_stream::fill(&mut head, 0);
+    match filled {
+        Filled::Full => file_header(&head),
+        Filled::Ended(_) => Record::NoFile,
+        Filled::Failed => Record::Unread,
     }
-    let file = ivf_file::parse_ivf_header(&head);
+}
+
+fn file_header(head: &[u8]) -> Record {
+    let file = ivf_file::parse_ivf_header(head);
     match file {
         FileRead::Header(_) => Record::File,
         FileRead::Refused => Record::NoFile,
+    }
+}
+
+// What stands where a record's data is wanted.
+fn data(filled: Filled, whole: Record) -> Record {
+    match filled {
+        Filled::Full => whole,
+        Filled::Ended(_) => Record::Cut,
+        Filled::Failed => Record::Unread,
     }
 }
 
@@ -673,51 +736,53 @@ fn read_file_header() -> Record {
 fn read_past(buf: &mut [u8], n: u64) -> Record {
     let parts = n / 65536;
     for _ in 0..parts {
-        if !read_data(buf, 65536) {
-            return Record::Cut;
-        }
+        let filled = fill_front(buf, 65536);
+        let Filled::Full = filled else {
+            return data(filled, Record::Cut);
+        };
     }
-    if read_data(buf, (n % 65536) as usize) {
-        Record::Long
-    } else {
-        Record::Cut
-    }
+    data(fill_front(buf, (n % 65536) as usize), Record::Long)
 }
 
 fn read_file_data(buf: &mut [u8], n: u64) -> Record {
     if n > 65536 {
         return read_past(buf, n);
     }
-    if read_data(buf, n as usize) {
-        Record::Chunk(n as usize)
-    } else {
-        Record::Cut
-    }
+    data(fill_front(buf, n as usize), Record::Chunk(n as usize))
 }
 
 fn read_file_record(buf: &mut [u8]) -> Record {
     let mut head = [0u8; 12];
-    let got = io::read_full(STDIN_FILENO, &mut head);
-    if got == 0 {
-        return Record::End;
+    let filled = base_stream::fill(&mut head, 0);
+    match filled {
+        Filled::Full => file_record(buf, &head),
+        Filled::Ended(n) => {
+            if n == 0 {
+                Record::End
+            } else {
+                Record::Cut
+            }
+        }
+        Filled::Failed => Record::Unread,
     }
-    if got < 12 {
-        return Record::Cut;
-    }
-    let Little::Value(n) = ivf_file::record_length(&head) else {
+}
+
+fn file_record(buf: &mut [u8], head: &[u8]) -> Record {
+    let Little::Value(n) = ivf_file::record_length(head) else {
         return Record::Cut;
     };
     read_file_data(buf, n)
 }
 
-// Where the input ends, the kind stays 4.
 fn read_series_record(buf: &mut [u8]) -> Record {
     let mut kind = [4u8; 1];
-    io::read_full(STDIN_FILENO, &mut kind);
+    let filled = base_stream::fill(&mut kind, 0);
+    let Filled::Full = filled else {
+        return stopped(filled);
+    };
     match kind[0] {
         0 => Record::Fresh,
         1 => read_chunk(buf),
-        2 => read_file_header(),
         3 => read_frame(buf),
         _ => Record::End,
     }
@@ -731,27 +796,19 @@ fn read_record(buf: &mut [u8], file: bool) -> Record {
     }
 }
 
-// The first n bytes. There are never fewer.
-fn front(s: &[u8], n: usize) -> &[u8] {
-    if n > s.len() {
-        return s;
-    }
-    let start = 0;
-    &s[start..n]
+fn open_file(form: &[u8], out: &mut [u8]) -> Series {
+    let at = put_columns(form, out, 0);
+    let page = Page { at, broken: false };
+    fresh(true, page)
 }
 
-fn open_file() -> Series {
-    print_columns();
-    fresh(true)
-}
-
-fn after_record(record: Record, buf: &[u8], series: Series) -> Series {
+fn after_record(form: &[u8], record: Record, buf: &[u8], out: &mut [u8], series: Series) -> Series {
     match record {
-        Record::Chunk(n) => answer_chunk(front(buf, n), series),
-        Record::Frame(n, offset, size) => answer_frame(front(buf, n), offset, size, series),
-        Record::Long => pass_chunk(series),
-        Record::File => open_file(),
-        _ => fresh(false),
+        Record::Chunk(n) => answer_chunk(form, front(buf, n), out, series),
+        Record::Frame(n, offset, size) => answer_frame(form, front(buf, n), out, offset, size, series),
+        Record::Long => pass_chunk(form, out, series),
+        Record::File => open_file(form, out),
+        _ => fresh(false, series.page),
     }
 }
 
@@ -760,42 +817,156 @@ fn is_last(record: Record) -> bool {
         Record::End => true,
         Record::NoFile => true,
         Record::Cut => true,
+        Record::Unread => true,
         _ => false,
     }
 }
 
-// What is printed at the end of a file. Refusal 7 prints nothing else.
-fn print_end(record: Record, file: bool, chunks: u64, refused: u64) {
+// Writes what is left to be written.
+fn finished(out: &[u8], page: Page, ending: Ending) -> Ending {
+    if page.broken {
+        return Ending::Unwritten;
+    }
+    base_stream::finish(out, page.at, ending)
+}
+
+// The end of a file. Refusal 7 prints nothing else.
+fn end(form: &[u8], out: &mut [u8], record: Record, series: Series) -> Ending {
     match record {
-        Record::NoFile => print_file_refused(7),
-        Record::Cut => print_cut(chunks, refused),
-        _ => print_whole(file, chunks, refused),
+        Record::NoFile => end_refused(form, out),
+        Record::Cut => end_cut(form, out, flushed(out, series.page), series),
+        Record::Unread => Ending::Unread,
+        _ => end_whole(form, out, flushed(out, series.page), series),
     }
 }
 
-fn print_cut(chunks: u64, refused: u64) {
-    print_file_refused(8);
-    print_last(chunks, refused);
+fn end_refused(form: &[u8], out: &mut [u8]) -> Ending {
+    let at = put_file_refused(form, out, 0, 7);
+    let page = Page { at, broken: false };
+    finished(out, page, Ending::Refused)
 }
 
-fn print_whole(file: bool, chunks: u64, refused: u64) {
+fn end_cut(form: &[u8], out: &mut [u8], page: Page, series: Series) -> Ending {
+    let at = put_file_refused(form, out, page.at, 8);
+    let at = put_last(form, out, at, series.chunk, series.refused);
+    let page = Page {
+        at,
+        broken: page.broken,
+    };
+    finished(out, page, Ending::Refused)
+}
+
+fn end_whole(form: &[u8], out: &mut [u8], page: Page, series: Series) -> Ending {
+    if !series.file {
+        return finished(out, page, Ending::Done);
+    }
+    let at = put_last(form, out, page.at, series.chunk, series.refused);
+    let page = Page {
+        at,
+        broken: page.broken,
+    };
+    finished(out, page, Ending::Done)
+}
+
+// An IVF file begins with its header, a series with any record.
+fn first_record(file: bool, buf: &mut [u8]) -> Record {
     if file {
-        print_last(chunks, refused);
+        read_file_header()
+    } else {
+        read_series_record(buf)
     }
 }
 
 // Nothing says that the input ends, so the records are counted down.
-fn main() {
-    let mut buf = io::large_buffer();
-    let mut series = fresh(false);
+fn trace(form: &[u8], buf: &mut [u8], out: &mut [u8], file: bool) -> Ending {
+    let page = Page { at: 0, broken: false };
+    let mut series = fresh(file, page);
+    let mut record = first_record(file, buf);
     let mut left = u64::MAX;
     while left > 0 {
-        let record = read_record(&mut buf, series.file);
         if is_last(record) {
-            print_end(record, series.file, series.chunk, series.refused);
-            return;
+            return end(form, out, record, series);
         }
-        series = after_record(record, &buf, series);
+        series = after_record(form, record, buf, out, series);
+        if series.page.broken {
+            return Ending::Unwritten;
+        }
+        record = read_record(buf, file);
         left -= 1;
+    }
+    Ending::Done
+}
+
+fn run(form: &[u8], file: bool) {
+    let mut buf = io::large_buffer();
+    let mut out = io::large_buffer();
+    let ending = trace(form, &mut buf, &mut out, file);
+    ending.say();
+}
+
+// What the arguments ask for.
+enum Mode {
+    File,
+    Series,
+    Unknown,
+}
+
+fn asked() -> Mode {
+    let words = os::arg_count();
+    if words < 2 {
+        return Mode::File;
+    }
+    let mut word = [0u8; 8];
+    let n = os::arg(1, &mut word);
+    if words == 2 && check::same(&word[..n], b"series") {
+        Mode::Series
+    } else {
+        Mode::Unknown
+    }
+}
+
+fn forms(file: bool) {
+    run(
+        b"# refused # frame #\n@\
+        # # <key|intra|inter|show> # # # # # #\n\
+        \x20 Header { profile: Profile#, bit_depth: Depth#, subsampling_x: ?, subsampling_y: ?, \
+        color_space: <Unknown|Bt601|Bt709|Smpte170|Smpte240|Bt2020|Reserved2|CsSrgb>, color_range: <StudioSwing|FullSwing>, \
+        show_existing_frame: ?, frame_to_show_map_idx: #, frame_type: <KeyFrame|InterFrame>, show_frame: ?, \
+        error_resilient_mode: ?, width: #, height: #, render_and_frame_size_different: ?, render_width: #, \
+        render_height: #, intra_only: ?, reset_frame_context: #, refresh_frame_flags: #, ref_frame_idx: [#, #, #], \
+        ref_frame_sign_bias: [#, #, #, #], allow_high_precision_mv: ?, \
+        interpolation_filter: <EightTap|EightTapSmooth|EightTapSharp|Bilinear|Switchable>, refresh_frame_context: ?, \
+        frame_parallel_decoding_mode: ?, frame_context_idx: #@\
+        , lf: LoopFilterParams { level: #, sharpness: #, delta_enabled: ?, delta_update: ?, \
+        update_ref_delta: [?, ?, ?, ?], ref_deltas: [%, %, %, %], update_mode_delta: [?, ?], mode_deltas: [%, %] }@\
+        , quant: QuantizationParams { base_q_idx: #, delta_q_y_dc: %, delta_q_uv_dc: %, delta_q_uv_ac: % }@\
+        , seg: SegmentationParams { enabled: ?, update_map: ?, tree_probs: [#, #, #, #, #, #, #], \
+        pred_probs: [#, #, #], temporal_update: ?, update_data: ?, abs_or_delta_update: ?, \
+        feature_enabled: [[?, ?, ?, ?], [?, ?, ?, ?], [?, ?, ?, ?], [?, ?, ?, ?], [?, ?, ?, ?], [?, ?, ?, ?], [?, ?, ?, ?], [?, ?, ?, ?]], \
+        feature_data: [[%, %, %, %], [%, %, %, %], [%, %, %, %], [%, %, %, %], [%, %, %, %], [%, %, %, %], [%, %, %, %], [%, %, %, %]] }@\
+        , tile_cols_log2: #, tile_rows_log2: #, lossless: ?, header_size_in_bytes: #, uncompressed_header_size_in_bytes: # }\n@\
+        \x20 seg # Segmentation { lvl_lookup: [[#, #], [#, #], [#, #], [#, #]], luma_ac_quant_scale: %, luma_dc_quant_scale: %, \
+        chroma_ac_quant_scale: %, chroma_dc_quant_scale: %, reference_frame_enabled: ?, reference_frame: %, \
+        reference_skip_enabled: ? }\n@\
+        \x20 state ReaderState { bit_depth: Depth#, subsampling_x: ?, subsampling_y: ?, \
+        color_space: <Unknown|Bt601|Bt709|Smpte170|Smpte240|Bt2020|Reserved2|CsSrgb>, color_range: <StudioSwing|FullSwing>@\
+        , reference_frame_sz: [FrameSize { width: #, height: # }, FrameSize { width: #, height: # }, FrameSize { width: #, height: # }, \
+        FrameSize { width: #, height: # }, FrameSize { width: #, height: # }, FrameSize { width: #, height: # }, \
+        FrameSize { width: #, height: # }, FrameSize { width: #, height: # }] }\n@\
+        chunk frame kind at size width height refresh hdr\n@\
+        file refused #\n@\
+        # chunks # refused\n@",
+        file,
+    )
+}
+
+fn main() {
+    let mode = asked();
+    match mode {
+        Mode::File => forms(true),
+        Mode::Series => forms(false),
+        Mode::Unknown => {
+            io::write_all(STDERR_FILENO, b"tool_trace: the only argument there is is series\n");
+        }
     }
 }

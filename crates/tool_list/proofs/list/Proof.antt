@@ -32,8 +32,8 @@ loop-less c = search needs
 loop-again : tie.Need-loop-again Inv-loop μ-loop
 loop-again c = search needs
 
-write-text-requires : tie.Need-write-text-requires Inv-loop μ-loop
-write-text-requires c κs = search needs
+finished-requires : tie.Need-finished-requires Inv-loop μ-loop
+finished-requires c κs = search needs
 
 same-length : tie.Need-same-length Inv-loop μ-loop
 same-length c = search needs
@@ -57,7 +57,7 @@ list-spec =
     sub-left
     loop-less
     loop-again
-    write-text-requires
+    finished-requires
     same-length
     same-length-2
     returns)

@@ -1,4 +1,4 @@
--- `trace::next_mark` is safe and ends, and its answer lies in the form: the index runs to the length.
+-- `tool_trace::next_mark` is safe and ends, and its answer lies in the form: the index runs to the length.
 use mathlib.Core.Path.{_≡_}
 use Prim.Native.Nat.{_-_}
 use lib.ListN.{length}

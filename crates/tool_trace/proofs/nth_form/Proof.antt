@@ -1,4 +1,4 @@
--- `trace::nth_form` is safe and ends: the index runs from 0 to the length.
+-- `tool_trace::nth_form` is safe and ends: the index runs to the length.
 use mathlib.Core.Path.{_≡_}
 use Prim.Native.Nat.{_-_}
 use lib.ListN.{length}

@@ -1,4 +1,4 @@
--- `trace::read_past` is safe and ends: the parts are counted, and the buffer keeps its length.
+-- `tool_trace::read_past` is safe and ends: the parts are counted, and the buffer keeps its length.
 use mathlib.Core.Path.{_≡_}
 use Prim.Native.Nat.{_-_}
 use lib.ListN.{length}
@@ -18,6 +18,12 @@ loop-holds c = search needs
 read-data-requires : tie.Need-read-data-requires Inv-loop μ-loop
 read-data-requires c κs = search needs
 
+enum-told : tie.Need-enum-told Inv-loop μ-loop
+enum-told c = search needs
+
+data-requires : tie.Need-data-requires Inv-loop μ-loop
+data-requires c κs = search needs
+
 same-length : tie.Need-same-length Inv-loop μ-loop
 same-length c = search needs
 
@@ -36,17 +42,14 @@ loop-again c = search needs
 read-data-requires-2 : tie.Need-read-data-requires-2 Inv-loop μ-loop
 read-data-requires-2 c κs = search needs
 
+data-requires-2 : tie.Need-data-requires-2 Inv-loop μ-loop
+data-requires-2 c κs = search needs
+
 same-length-2 : tie.Need-same-length-2 Inv-loop μ-loop
 same-length-2 c = search needs
 
 returns-2 : tie.Need-returns-2 Inv-loop μ-loop
 returns-2 c = search needs
-
-same-length-3 : tie.Need-same-length-3 Inv-loop μ-loop
-same-length-3 c = search needs
-
-returns-3 : tie.Need-returns-3 Inv-loop μ-loop
-returns-3 c = search needs
 
 pub read-past-spec : {M : Type 1} → statement M
 read-past-spec =
@@ -56,13 +59,14 @@ read-past-spec =
     μ-loop
     loop-holds
     read-data-requires
+    enum-told
+    data-requires
     same-length
     returns
     add-counter
     loop-less
     loop-again
     read-data-requires-2
+    data-requires-2
     same-length-2
-    returns-2
-    same-length-3
-    returns-3)
+    returns-2)

@@ -1,0 +1,48 @@
+-- `test_segments::put_all_scales` is safe and ends: the index runs over the segments, and the buffer keeps its length.
+use mathlib.Core.Path.{_≡_}
+use Prim.Native.Nat.{_≤_, _-_}
+use lib.ListN.{length}
+use borrow.Author.Needs.{needs}
+use Rattle.test_segments.proofs.put_all_scales.Statement.{statement}
+use Rattle.test_segments.proofs.put_all_scales.Tie as tie
+
+abbrev Inv-loop : tie.InvT-loop
+Inv-loop out₀ at h next₀ i₀ out next i = (i ≤ 8) × (length out ≡ length out₀)
+
+abbrev μ-loop : tie.MeasureT-loop
+μ-loop out₀ at h next₀ i₀ out next i = 8 - i
+
+loop-holds : tie.Need-loop-holds Inv-loop μ-loop
+loop-holds c = search needs
+
+put-scales-requires : tie.Need-put-scales-requires Inv-loop μ-loop
+put-scales-requires c κs = search needs
+
+add-i : tie.Need-add-i Inv-loop μ-loop
+add-i c = search needs
+
+loop-less : tie.Need-loop-less Inv-loop μ-loop
+loop-less c = search needs
+
+loop-again : tie.Need-loop-again Inv-loop μ-loop
+loop-again c = search needs
+
+same-length : tie.Need-same-length Inv-loop μ-loop
+same-length c = search needs
+
+returns : tie.Need-returns Inv-loop μ-loop
+returns c = search needs
+
+pub put-all-scales-spec : {M : Type 1} → statement M
+put-all-scales-spec =
+    tie.close
+    (tie.spec
+    Inv-loop
+    μ-loop
+    loop-holds
+    put-scales-requires
+    add-i
+    loop-less
+    loop-again
+    same-length
+    returns)
