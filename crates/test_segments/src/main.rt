@@ -288,7 +288,11 @@ fn length_of(kind: u8) -> usize {
 // A case: its first byte and what follows it.
 fn answered(out: &mut [u8], kind: u8, s: &[u8], last: [Segmentation; 8], at: usize) -> After {
     match kind {
-        0 => printed(out, Segmentation::update_segmentation(last, header_of(s)), at),
+        0 => printed(
+            out,
+            Segmentation::update_segmentation(last, header_of(s)),
+            at,
+        ),
         1 => printed(
             out,
             Segmentation::update_segmentation(segments_of(s), header_of(rest(s, RECORDS))),

@@ -141,7 +141,13 @@ pub fn data_row(s: [i16; SegmentationParams::FEATURES]) -> [u32; SegmentationPar
 
 // A header, group by group.
 
-pub fn color_row(depth: BitDepth, x: bool, y: bool, space: ColorSpace, range: ColorRange) -> [u32; 5]
+pub fn color_row(
+    depth: BitDepth,
+    x: bool,
+    y: bool,
+    space: ColorSpace,
+    range: ColorRange,
+) -> [u32; 5]
     ensures { λ r. ⌜ r ≡ colorRow depth x y space range ⌝ }
 {
     [

@@ -299,7 +299,16 @@ fn state_colors(form: &[u8], out: &mut [u8], at: usize, st: ReaderState) -> usiz
     let space = st.color_space;
     let range = st.color_range;
     let pen = start(form, at, STATE);
-    let pen = colors(form, out, pen, depth, st.subsampling_x, st.subsampling_y, space, range);
+    let pen = colors(
+        form,
+        out,
+        pen,
+        depth,
+        st.subsampling_x,
+        st.subsampling_y,
+        space,
+        range,
+    );
     let pen = ended(form, out, pen);
     pen.at
 }
@@ -349,10 +358,7 @@ fn put_segment(form: &[u8], out: &mut [u8], pen: Pen, i: usize, record: Segmenta
 fn put_segments(form: &[u8], out: &mut [u8], pen: Pen, s: [Segmentation; 8]) -> usize {
     let mut at = pen.at;
     for i in 0..8usize {
-        let line = Pen {
-            at,
-            form: pen.form,
-        };
+        let line = Pen { at, form: pen.form };
         at = put_segment(form, out, line, i, s[i]);
     }
     at
@@ -367,13 +373,7 @@ fn kind(h: Header) -> u64 {
     }
     match frame_type {
         FrameType::KeyFrame => 0,
-        FrameType::InterFrame => {
-            if h.intra_only {
-                1
-            } else {
-                2
-            }
-        }
+        FrameType::InterFrame => { if h.intra_only { 1 } else { 2 } }
     }
 }
 
@@ -410,7 +410,12 @@ fn put_frame_line(form: &[u8], out: &mut [u8], pen: Pen, h: Header) -> Pen {
     let pen = value(form, out, pen, h.width as u64);
     let pen = value(form, out, pen, h.height as u64);
     let pen = value(form, out, pen, of_byte(h.refresh_frame_flags));
-    value(form, out, pen, of_short(h.uncompressed_header_size_in_bytes))
+    value(
+        form,
+        out,
+        pen,
+        of_short(h.uncompressed_header_size_in_bytes),
+    )
 }
 
 // A frame's line, its header and the segment records after it.
@@ -428,7 +433,14 @@ fn put_frame(
     put_segments(form, out, pen, segments)
 }
 
-fn put_refusal(form: &[u8], out: &mut [u8], at: usize, chunk: u64, refusal: u8, frame: usize) -> usize {
+fn put_refusal(
+    form: &[u8],
+    out: &mut [u8],
+    at: usize,
+    chunk: u64,
+    refusal: u8,
+    frame: usize,
+) -> usize {
     let pen = start(form, at, REFUSAL);
     let pen = value(form, out, pen, chunk);
     let pen = value(form, out, pen, refusal as u64);
@@ -476,7 +488,10 @@ fn flushed(out: &[u8], page: Page) -> Page {
     let room = base_stream::make_room(out, page.at, ROOM);
     match room {
         Room::At(at) => Page { at, broken: false },
-        Room::Failed => Page { at: 0, broken: true },
+        Room::Failed => Page {
+            at: 0,
+            broken: true,
+        },
     }
 }
 
@@ -530,7 +545,14 @@ fn list_frame(form: &[u8], out: &mut [u8], place: Place, h: Header, before: List
 }
 
 // There are never more than eight.
-fn list_nth(form: &[u8], out: &mut [u8], chunk: u64, i: usize, read: ChunkRead, before: Listed) -> Listed {
+fn list_nth(
+    form: &[u8],
+    out: &mut [u8],
+    chunk: u64,
+    i: usize,
+    read: ChunkRead,
+    before: Listed,
+) -> Listed {
     if i >= 8 {
         return before;
     }
@@ -544,7 +566,14 @@ fn list_nth(form: &[u8], out: &mut [u8], chunk: u64, i: usize, read: ChunkRead, 
     list_frame(form, out, place, h, before)
 }
 
-fn list_frames(form: &[u8], out: &mut [u8], chunk: u64, frames: usize, read: ChunkRead, before: Listed) -> Listed {
+fn list_frames(
+    form: &[u8],
+    out: &mut [u8],
+    chunk: u64,
+    frames: usize,
+    read: ChunkRead,
+    before: Listed,
+) -> Listed {
     let mut listed = before;
     for i in 0..frames {
         let after = list_nth(form, out, chunk, i, read, listed);
@@ -553,7 +582,14 @@ fn list_frames(form: &[u8], out: &mut [u8], chunk: u64, frames: usize, read: Chu
     listed
 }
 
-fn list_refusal(form: &[u8], out: &mut [u8], chunk: u64, refusal: u8, frame: usize, before: Listed) -> Listed {
+fn list_refusal(
+    form: &[u8],
+    out: &mut [u8],
+    chunk: u64,
+    refusal: u8,
+    frame: usize,
+    before: Listed,
+) -> Listed {
     let page = flushed(out, before.page);
     let at = put_refusal(form, out, page.at, chunk, refusal, frame);
     let page = Page {
@@ -572,7 +608,14 @@ fn list_answer(form: &[u8], out: &mut [u8], chunk: u64, read: ChunkRead, before:
     list_frames(form, out, chunk, n, read, before)
 }
 
-fn list_single(form: &[u8], out: &mut [u8], number: u8, place: Place, h: Header, before: Listed) -> Listed {
+fn list_single(
+    form: &[u8],
+    out: &mut [u8],
+    number: u8,
+    place: Place,
+    h: Header,
+    before: Listed,
+) -> Listed {
     if number == 0 {
         list_frame(form, out, place, h, before)
     } else {
@@ -600,7 +643,13 @@ fn listed_before(series: Series) -> Listed {
 }
 
 // After a chunk, with the number of its refusal, 0 for none.
-fn after_chunk(series: Series, number: u8, page: Page, state: ReaderState, segments: [Segmentation; 8]) -> Series {
+fn after_chunk(
+    series: Series,
+    number: u8,
+    page: Page,
+    state: ReaderState,
+    segments: [Segmentation; 8],
+) -> Series {
     Series {
         file: series.file,
         chunk: one_more(series.chunk),
@@ -621,7 +670,14 @@ fn answer_chunk(form: &[u8], s: &[u8], out: &mut [u8], series: Series) -> Series
     after_chunk(series, answer.number(), page, state, segments)
 }
 
-fn answer_frame(form: &[u8], s: &[u8], out: &mut [u8], offset: usize, size: usize, series: Series) -> Series {
+fn answer_frame(
+    form: &[u8],
+    s: &[u8],
+    out: &mut [u8],
+    offset: usize,
+    size: usize,
+    series: Series,
+) -> Series {
     let read = chunk_frame::parse_frame(s, offset, size, series.state);
     let verdict = read.place;
     let place = Place {
@@ -631,7 +687,14 @@ fn answer_frame(form: &[u8], s: &[u8], out: &mut [u8], offset: usize, size: usiz
         size,
     };
     let header = read.header;
-    let listed = list_single(form, out, verdict.number(), place, header, listed_before(series));
+    let listed = list_single(
+        form,
+        out,
+        verdict.number(),
+        place,
+        header,
+        listed_before(series),
+    );
     let state = read.state;
     let page = list_state(form, out, series.file, state, listed.page);
     let segments = listed.segments;
@@ -756,13 +819,7 @@ fn read_file_record(buf: &mut [u8]) -> Record {
     let filled = base_stream::fill(&mut head, 0);
     match filled {
         Filled::Full => file_record(buf, &head),
-        Filled::Ended(n) => {
-            if n == 0 {
-                Record::End
-            } else {
-                Record::Cut
-            }
-        }
+        Filled::Ended(n) => { if n == 0 { Record::End } else { Record::Cut } }
         Filled::Failed => Record::Unread,
     }
 }
@@ -805,7 +862,14 @@ fn open_file(form: &[u8], out: &mut [u8]) -> Series {
 fn after_record(form: &[u8], record: Record, buf: &[u8], out: &mut [u8], series: Series) -> Series {
     match record {
         Record::Chunk(n) => answer_chunk(form, front(buf, n), out, series),
-        Record::Frame(n, offset, size) => answer_frame(form, front(buf, n), out, offset, size, series),
+        Record::Frame(n, offset, size) => answer_frame(
+            form,
+            front(buf, n),
+            out,
+            offset,
+            size,
+            series,
+        ),
         Record::Long => pass_chunk(form, out, series),
         Record::File => open_file(form, out),
         _ => fresh(false, series.page),
@@ -879,7 +943,10 @@ fn first_record(file: bool, buf: &mut [u8]) -> Record {
 
 // Nothing says that the input ends, so the records are counted down.
 fn trace(form: &[u8], buf: &mut [u8], out: &mut [u8], file: bool) -> Ending {
-    let page = Page { at: 0, broken: false };
+    let page = Page {
+        at: 0,
+        broken: false,
+    };
     let mut series = fresh(file, page);
     let mut record = first_record(file, buf);
     let mut left = u64::MAX;
@@ -966,7 +1033,10 @@ fn main() {
         Mode::File => forms(true),
         Mode::Series => forms(false),
         Mode::Unknown => {
-            io::write_all(STDERR_FILENO, b"tool_trace: the only argument there is is series\n");
+            io::write_all(
+                STDERR_FILENO,
+                b"tool_trace: the only argument there is is series\n",
+            );
         }
     }
 }

@@ -32,8 +32,14 @@ same-length-2 c = search needs
 returns : tie.Need-returns Inv-loop μ-loop
 returns c = search needs
 
-flushed-requires : tie.Need-flushed-requires Inv-loop μ-loop
-flushed-requires c κs = search needs
+make-room-requires : tie.Need-make-room-requires Inv-loop μ-loop
+make-room-requires c κs = search needs
+
+enum-known-room : tie.Need-enum-known-room Inv-loop μ-loop
+enum-known-room c = search needs
+
+enum-told : tie.Need-enum-told Inv-loop μ-loop
+enum-told c = search needs
 
 same-length-3 : tie.Need-same-length-3 Inv-loop μ-loop
 same-length-3 c = search needs
@@ -81,7 +87,9 @@ tell-all-spec =
     same-length
     same-length-2
     returns
-    flushed-requires
+    make-room-requires
+    enum-known-room
+    enum-told
     same-length-3
     same-length-4
     returns-2

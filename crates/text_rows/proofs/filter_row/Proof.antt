@@ -120,12 +120,12 @@ returns : tie.Need-returns
 returns c =
     let lf = c .before .before .before .before .before .before .before .before .before .before .before .before .before .before .before .before .before .before .args .t1 in
     row-is lf
-      (lifts-at w8 (lf .«ref_deltas») 0 (c .before .before .before .before .before .before .before .before .before .before .before .before .before .lift-byte-arg .given) (c .before .before .before .before .before .before .before .before .before .before .before .before .lift-byte .ensures))
-      (lifts-at w8 (lf .«ref_deltas») 1 (c .before .before .before .before .before .before .before .before .before .before .before .lift-byte-arg2 .given) (c .before .before .before .before .before .before .before .before .before .before .lift-byte2 .ensures))
-      (lifts-at w8 (lf .«ref_deltas») 2 (c .before .before .before .before .before .before .before .before .before .lift-byte-arg3 .given) (c .before .before .before .before .before .before .before .before .lift-byte3 .ensures))
-      (lifts-at w8 (lf .«ref_deltas») 3 (c .before .before .before .before .before .before .before .lift-byte-arg4 .given) (c .before .before .before .before .before .before .lift-byte4 .ensures))
-      (lifts-at w8 (lf .«mode_deltas») 0 (c .before .before .before .lift-byte-arg5 .given) (c .before .before .lift-byte5 .ensures))
-      (lifts-at w8 (lf .«mode_deltas») 1 (c .before .lift-byte-arg6 .given) (c .lift-byte6 .ensures))
+    (lifts-at w8 (lf .«ref_deltas») 0 (c .before .before .before .before .before .before .before .before .before .before .before .before .before .lift-byte-arg .given) (c .before .before .before .before .before .before .before .before .before .before .before .before .lift-byte .ensures))
+    (lifts-at w8 (lf .«ref_deltas») 1 (c .before .before .before .before .before .before .before .before .before .before .before .lift-byte-arg2 .given) (c .before .before .before .before .before .before .before .before .before .before .lift-byte2 .ensures))
+    (lifts-at w8 (lf .«ref_deltas») 2 (c .before .before .before .before .before .before .before .before .before .lift-byte-arg3 .given) (c .before .before .before .before .before .before .before .before .lift-byte3 .ensures))
+    (lifts-at w8 (lf .«ref_deltas») 3 (c .before .before .before .before .before .before .before .lift-byte-arg4 .given) (c .before .before .before .before .before .before .lift-byte4 .ensures))
+    (lifts-at w8 (lf .«mode_deltas») 0 (c .before .before .before .lift-byte-arg5 .given) (c .before .before .lift-byte5 .ensures))
+    (lifts-at w8 (lf .«mode_deltas») 1 (c .before .lift-byte-arg6 .given) (c .lift-byte6 .ensures))
 
 pub filter-row-spec : {M : Type 1} → statement M
 filter-row-spec =

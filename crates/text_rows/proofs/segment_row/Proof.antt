@@ -77,7 +77,7 @@ cast-t48 c = search needs
 
 returns : tie.Need-returns
 unfolding segmentRow
-returns c = 
+returns c =
     let s = c .before .before .before .before .before .before .before .before .before .before .before .before .before .before .before .before .before .before .args .t1 in
     let f1 : SFits w16 (s .«luma_ac_quant_scale») = search needs in
     let f2 : SFits w16 (s .«luma_dc_quant_scale») = search needs in

@@ -15,8 +15,8 @@ abbrev μ-loop : tie.MeasureT-loop
 loop-holds : tie.Need-loop-holds Inv-loop μ-loop
 loop-holds c = search needs
 
-read-data-requires : tie.Need-read-data-requires Inv-loop μ-loop
-read-data-requires c κs = search needs
+fill-front-requires : tie.Need-fill-front-requires Inv-loop μ-loop
+fill-front-requires c κs = search needs
 
 enum-told : tie.Need-enum-told Inv-loop μ-loop
 enum-told c = search needs
@@ -39,8 +39,8 @@ loop-less c = search needs
 loop-again : tie.Need-loop-again Inv-loop μ-loop
 loop-again c = search needs
 
-read-data-requires-2 : tie.Need-read-data-requires-2 Inv-loop μ-loop
-read-data-requires-2 c κs = search needs
+fill-front-requires-2 : tie.Need-fill-front-requires-2 Inv-loop μ-loop
+fill-front-requires-2 c κs = search needs
 
 data-requires-2 : tie.Need-data-requires-2 Inv-loop μ-loop
 data-requires-2 c κs = search needs
@@ -58,7 +58,7 @@ read-past-spec =
     Inv-loop
     μ-loop
     loop-holds
-    read-data-requires
+    fill-front-requires
     enum-told
     data-requires
     same-length
@@ -66,7 +66,7 @@ read-past-spec =
     add-counter
     loop-less
     loop-again
-    read-data-requires-2
+    fill-front-requires-2
     data-requires-2
     same-length-2
     returns-2)
