@@ -1,3 +1,4 @@
 pub mod Order
 pub mod Each
 pub mod First
+pub mod Values

@@ -1,8 +1,8 @@
--- A part of a list, each element of one, and the first number that has a property.
+-- A part of a list, each element of one, a list by its values, and the first number that has a property.
 -- Assumes nothing.
 use Prim.Native.Nat.{ℕ, zero, suc, _+_, _-_}
 use mathlib.Core.Bool.{Bool, _&&_}
-use mathlib.Core.List.{List, [], _∷_}
+use mathlib.Core.List.{List, [], _∷_, _++_}
 use lib.Dec.{leb}
 use lib.ListN.{length}
 use Rattle.base_shared.specs.Choice.{pick}
@@ -20,3 +20,8 @@ each f i (x ∷ others) = f i x ∷ each f (i + 1) others
 unfoldable pub first : (ℕ → Bool) → ℕ → ℕ → ℕ
 first p i zero = i
 first p i (suc n) = pick (p i) i (first p (i + 1) n)
+
+-- the first n values of f
+unfoldable pub valuesOf : {A : Type 0} → (ℕ → A) → ℕ → List A
+valuesOf f zero = []
+valuesOf f (suc n) = valuesOf f n ++ (f n ∷ [])

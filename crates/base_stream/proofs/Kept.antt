@@ -10,7 +10,7 @@ use lib.Seq.{take-take}
 use Rattle.base_stream.specs.declared.Filled.{Filled}
 use Rattle.base_stream.specs.declared.Moved.{Moved}
 use Rattle.base_stream.specs.declared.Moved.the-variants.{Bytes, Nothing, Broken}
-use Rattle.base_stream.specs.Stream.{endOf, EndsWithin, Got, FilledFrom, FrontFilled}
+use Rattle.base_stream.specs.Stream.{endOf, EndsWithin, ReadOn, FilledFrom, FrontFilled}
 
 pub kept-before : (before mid after : List ℕ) (at next : ℕ) → at ≤ next → take at mid ≡ take at before → take next after ≡ take next mid → take at after ≡ take at before
 kept-before before mid after at next h k g = sym (take-take at next after h) ∙ ap (take at) g ∙ take-take at next mid h ∙ k
@@ -20,7 +20,7 @@ ends-of (Bytes n) h k = tt
 ends-of Nothing h k = (h, k)
 ends-of Broken h k = tt
 
-pub stopped : (before mid after : List ℕ) (at next : ℕ) {m : Moved} {r : Filled} → r ≡ endOf m next → at ≤ next → next < length mid → length mid ≡ length before → take at mid ≡ take at before → Got mid next m after → FilledFrom before at r after
+pub stopped : (before mid after : List ℕ) (at next : ℕ) {m : Moved} {r : Filled} → r ≡ endOf m next → at ≤ next → next < length mid → length mid ≡ length before → take at mid ≡ take at before → ReadOn mid next m after → FilledFrom before at r after
 stopped before mid after at next {m} e h k l t g = record { kept = kept-before before mid after at next h t (g .kept); ends = rw e (ends-of m h (omega arith)) }
 
 -- the first n bytes, lent as a part

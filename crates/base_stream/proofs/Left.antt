@@ -6,14 +6,14 @@ use mathlib.Core.Bool.{Bool, true, false}
 use native.Mathlib.Omega.{arith}
 use lib.Dec.{leb}
 use borrow.Author.Tests.{leb-true, leb-false, le-leb, lt-leb}
-use Rattle.base_stream.specs.Stream.{hasRoom}
+use Rattle.base_stream.specs.Stream.{roomLeft}
 
-pub room-past : (size at n : ℕ) → size < at → false ≡ hasRoom size at n
-unfolding hasRoom
+pub room-past : (size at n : ℕ) → size < at → false ≡ roomLeft size at n
+unfolding roomLeft
 room-past size at n h = sym (lt-leb (at + n) size (omega arith))
 
-pub room-within : (size at n : ℕ) → at ≤ size → leb n (size - at) ≡ hasRoom size at n
-unfolding hasRoom
+pub room-within : (size at n : ℕ) → at ≤ size → leb n (size - at) ≡ roomLeft size at n
+unfolding roomLeft
 room-within size at n h = go (leb n (size - at)) refl
   where
     go : (b : Bool) → leb n (size - at) ≡ b → b ≡ leb (at + n) size

@@ -25,7 +25,7 @@ bytes Nothing = 0
 bytes Broken = 0
 
 -- one read: the bytes before the place stay, and what comes lies within the buffer
-pub record Got (before : List ℕ) (at : ℕ) (r : Moved) (after : List ℕ) : Type 0 where
+pub record ReadOn (before : List ℕ) (at : ℕ) (r : Moved) (after : List ℕ) : Type 0 where
   pub kept : take at after ≡ take at before
   pub within : at + bytes r ≤ length before
 
@@ -51,13 +51,13 @@ pub record FrontFilled (before : List ℕ) (n : ℕ) (r : Filled) (after : List 
   pub ends : EndsWithin 0 n r
 
 -- n bytes are left from `at` on
-unfoldable pub hasRoom : ℕ → ℕ → ℕ → Bool
-hasRoom size at n = leb (at + n) size
+unfoldable pub roomLeft : ℕ → ℕ → ℕ → Bool
+roomLeft size at n = leb (at + n) size
 
 -- the text goes on where it is, or at 0 once it is written; only a write can fail
 abbrev pub RoomFor : ℕ → ℕ → ℕ → Room → Type 0
-RoomFor size at n (At p) = p ≡ pick (hasRoom size at n) at 0
-RoomFor size at n room.Failed = hasRoom size at n ≡ false
+RoomFor size at n (At p) = p ≡ pick (roomLeft size at n) at 0
+RoomFor size at n room.Failed = roomLeft size at n ≡ false
 
 -- as it was to be, or because a write failed
 abbrev pub EndsAs : Ending → Ending → Type 0

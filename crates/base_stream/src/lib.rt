@@ -2,7 +2,7 @@
 ghost use Prim.Native.Nat.{_+_, _≤_};
 ghost use mathlib.Core.Path.{_≡_};
 ghost use lib.ListN.{length};
-ghost use Rattle.base_stream.specs.Stream.{bytes, endOf, Got, FilledFrom, FrontFilled, hasRoom, RoomFor, EndsAs};
+ghost use Rattle.base_stream.specs.Stream.{bytes, endOf, ReadOn, FilledFrom, FrontFilled, roomLeft, RoomFor, EndsAs};
 use libc::EINTR;
 use libc::STDERR_FILENO;
 use libc::STDIN_FILENO;
@@ -34,7 +34,7 @@ fn interrupted() -> bool {
 // One read into a buffer from a place on.
 fn read_some(buf: &mut [u8], at: usize) -> Moved
     requires { ⌜ at ≤ length (now buf) ⌝ }
-    ensures { λ r. ⌜ Got (now (buf .entry)) at r (now (buf .exit)) ⌝ }
+    ensures { λ r. ⌜ ReadOn (now (buf .entry)) at r (now (buf .exit)) ⌝ }
 {
     let got = libc::read(STDIN_FILENO, &mut buf[at..]);
     if got < 0 {
@@ -138,7 +138,7 @@ pub enum Room {
 }
 
 fn has_room(size: usize, at: usize, n: usize) -> bool
-    ensures { λ r. ⌜ r ≡ hasRoom size at n ⌝ }
+    ensures { λ r. ⌜ r ≡ roomLeft size at n ⌝ }
 {
     if at > size {
         return false;

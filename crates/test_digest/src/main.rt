@@ -48,34 +48,34 @@ fn row(h: u32, s: &[u32]) -> u32 {
 // The records, row by row.
 
 fn colors(h: u32, depth: BitDepth, x: bool, y: bool, space: ColorSpace, range: ColorRange) -> u32 {
-    let s = text_rows::color_row(depth, x, y, space, range);
+    let s = text_record_rows::color_row(depth, x, y, space, range);
     row(h, &s)
 }
 
 fn loop_filter(h: u32, lf: LoopFilterParams) -> u32 {
-    let s = text_rows::filter_row(lf);
+    let s = text_setting_rows::filter_row(lf);
     row(h, &s)
 }
 
 fn quantization(h: u32, q: QuantizationParams) -> u32 {
-    let s = text_rows::quantization_row(q);
+    let s = text_setting_rows::quantization_row(q);
     row(h, &s)
 }
 
 fn feature_flags(h: u32, seg: SegmentationParams) -> u32 {
     let enabled = seg.feature_enabled;
-    let s = text_rows::flag_row(enabled);
+    let s = text_setting_rows::flag_row(enabled);
     row(h, &s)
 }
 
 fn feature_data(h: u32, seg: SegmentationParams) -> u32 {
     let data = seg.feature_data;
-    let s = text_rows::data_row(data);
+    let s = text_setting_rows::data_row(data);
     row(h, &s)
 }
 
 fn segmentation(h: u32, seg: SegmentationParams) -> u32 {
-    let s = text_rows::segmentation_row(seg);
+    let s = text_setting_rows::segmentation_row(seg);
     feature_data(feature_flags(row(h, &s), seg), seg)
 }
 
@@ -96,17 +96,17 @@ fn header_colors(h: u32, header: Header) -> u32 {
 }
 
 fn header_picture(h: u32, header: Header) -> u32 {
-    let s = text_rows::picture_row(header);
+    let s = text_record_rows::picture_row(header);
     row(h, &s)
 }
 
 fn header_sources(h: u32, header: Header) -> u32 {
-    let s = text_rows::source_row(header);
+    let s = text_record_rows::source_row(header);
     row(h, &s)
 }
 
 fn header_end(h: u32, header: Header) -> u32 {
-    let s = text_rows::end_row(header);
+    let s = text_record_rows::end_row(header);
     row(h, &s)
 }
 
@@ -121,7 +121,7 @@ fn whole_header(h: u32, header: Header) -> u32 {
 }
 
 fn slots(h: u32, sizes: [FrameSize; ReaderState::REF_FRAMES]) -> u32 {
-    let s = text_rows::slot_row(sizes);
+    let s = text_record_rows::slot_row(sizes);
     row(h, &s)
 }
 
@@ -137,7 +137,7 @@ fn state_digest(st: ReaderState) -> u32 {
 }
 
 fn segment(h: u32, record: Segmentation) -> u32 {
-    let s = text_rows::segment_row(record);
+    let s = text_record_rows::segment_row(record);
     row(h, &s)
 }
 

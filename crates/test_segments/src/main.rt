@@ -144,7 +144,7 @@ fn header_of(s: &[u8]) -> Header {
 
 fn put_lifted(out: &mut [u8], at: usize, n: u64) -> usize {
     let at = base_bytes::put(out, at, b" ");
-    text_rows::put_lowered(out, at, n)
+    text_signed::put_lowered(out, at, n)
 }
 
 fn put_plain(out: &mut [u8], at: usize, n: u64) -> usize {
@@ -169,7 +169,7 @@ fn put_row(out: &mut [u8], at: usize, s: &[u32]) -> usize {
 }
 
 fn put_segment(out: &mut [u8], at: usize, record: Segmentation) -> usize {
-    let s = text_rows::segment_row(record);
+    let s = text_record_rows::segment_row(record);
     let at = put_row(out, at, &s);
     base_bytes::put(out, at, b"\n")
 }
@@ -183,7 +183,7 @@ fn put_segments(out: &mut [u8], at: usize, s: [Segmentation; 8]) -> usize {
 }
 
 fn put_scale(out: &mut [u8], at: usize, n: i16) -> usize {
-    put_lifted(out, at, text_rows::lift(n) as u64)
+    put_lifted(out, at, text_signed::lift(n) as u64)
 }
 
 fn put_luma(out: &mut [u8], at: usize, h: Header, segment_id: u8) -> usize {

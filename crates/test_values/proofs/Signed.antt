@@ -11,7 +11,7 @@ use mir.Facts.{toZ-pos, toZ-ofZ}
 use Rattle.base_enums.specs.declared.BitDepth.the-variants.{Depth12}
 use borrow.Author.Tests.{ne-eqb}
 use Rattle.part_coded.proofs.Signed.{minus}
-use Rattle.test_values.specs.Values.{signedBy, depthOf}
+use Rattle.test_values.specs.Values.{signedBy, depthRead}
 
 module _ (w : Width) (m : ℕ) (small : m < 2 ^ hbits w) (limit sign : ℕ) where
   pub plus-by : sign ≡ 0 → toZ w m ≡ signedBy limit sign m
@@ -27,5 +27,5 @@ module _ (w : Width) (m : ℕ) (small : m < 2 ^ hbits w) (limit sign : ℕ) wher
 pub held : (w : Width) (z : ℤ) → mag z < 2 ^ hbits w → toZ w (ofZ w z) ≡ z
 held w z h = toZ-ofZ {w = w} {z = z} (record { sfits = h })
 
-pub twelve : (b : ℕ) → (b ≡ 0 → ⊥) → (b ≡ 1 → ⊥) → Depth12 ≡ depthOf b
+pub twelve : (b : ℕ) → (b ≡ 0 → ⊥) → (b ≡ 1 → ⊥) → Depth12 ≡ depthRead b
 twelve b p q = rw (ne-eqb b 0 p, ne-eqb b 1 q)

@@ -9,7 +9,7 @@ use lib.ListN.{length, getD, drop}
 use Rattle.base_shared.specs.Choice.{pick}
 use Rattle.base_enums.specs.declared.BitDepth.{BitDepth}
 use Rattle.base_enums.specs.declared.BitDepth.the-variants.{Depth8, Depth10, Depth12}
-use Rattle.text_rows.specs.Number.{valuesOf}
+use Rattle.base_shared.specs.Lists.{valuesOf}
 
 abbrev pub byteAt : List ℕ → ℕ → ℕ
 byteAt s i = pick (ltb i (length s)) (getD s i 0) 255
@@ -41,8 +41,8 @@ unfoldable pub signedShortsAt : List ℕ → ℕ → List ℤ
 signedShortsAt s at = valuesOf (λ i. signedShortAt (drop at s) (i * 3)) 32
 
 -- any byte but 0 and 1 is twelve bits
-abbrev pub depthOf : ℕ → BitDepth
-depthOf b = pick (eqb b 0) Depth8 (pick (eqb b 1) Depth10 Depth12)
+abbrev pub depthRead : ℕ → BitDepth
+depthRead b = pick (eqb b 0) Depth8 (pick (eqb b 1) Depth10 Depth12)
 
 abbrev pub depthAt : List ℕ → ℕ → BitDepth
-depthAt s i = depthOf (byteAt s i)
+depthAt s i = depthRead (byteAt s i)

@@ -28,7 +28,7 @@ use libc::STDERR_FILENO;
 use segment_records::Segmentation;
 
 // Everything is printed by its form: the text, with marks in it. # stands for a number, % for one with a sign that is
-// lifted as in `text_rows`, ? for true or false, <a|b> for one of some words, and @ ends a form. One text holds all forms;
+// lifted as in `text_signed`, ? for true or false, <a|b> for one of some words, and @ ends a form. One text holds all forms;
 // `main` hands it on, since what a text costs to prove grows with the calls beside it.
 
 // The numbers of the forms at which printing starts.
@@ -172,7 +172,7 @@ fn put_value(form: &[u8], out: &mut [u8], pen: Pen, n: u64) -> Pen {
     let mark = pen.form;
     match mark_at(form, mark) {
         b'#' => passed(form, mark, text_numeral::put_number(out, pen.at, n)),
-        b'%' => passed(form, mark, text_rows::put_lowered(out, pen.at, n)),
+        b'%' => passed(form, mark, text_signed::put_lowered(out, pen.at, n)),
         b'?' => passed(form, mark, put_flag(out, pen.at, n)),
         b'<' => put_word(form, out, pen, n),
         _ => pen,
@@ -209,36 +209,36 @@ fn colors(
     space: ColorSpace,
     range: ColorRange,
 ) -> Pen {
-    let s = text_rows::color_row(depth, x, y, space, range);
+    let s = text_record_rows::color_row(depth, x, y, space, range);
     row(form, out, pen, &s)
 }
 
 fn loop_filter(form: &[u8], out: &mut [u8], pen: Pen, lf: LoopFilterParams) -> Pen {
-    let s = text_rows::filter_row(lf);
+    let s = text_setting_rows::filter_row(lf);
     let pen = row(form, out, pen, &s);
     ended(form, out, pen)
 }
 
 fn quantization(form: &[u8], out: &mut [u8], pen: Pen, q: QuantizationParams) -> Pen {
-    let s = text_rows::quantization_row(q);
+    let s = text_setting_rows::quantization_row(q);
     let pen = row(form, out, pen, &s);
     ended(form, out, pen)
 }
 
 fn feature_flags(form: &[u8], out: &mut [u8], pen: Pen, seg: SegmentationParams) -> Pen {
     let enabled = seg.feature_enabled;
-    let s = text_rows::flag_row(enabled);
+    let s = text_setting_rows::flag_row(enabled);
     row(form, out, pen, &s)
 }
 
 fn feature_data(form: &[u8], out: &mut [u8], pen: Pen, seg: SegmentationParams) -> Pen {
     let data = seg.feature_data;
-    let s = text_rows::data_row(data);
+    let s = text_setting_rows::data_row(data);
     row(form, out, pen, &s)
 }
 
 fn segmentation(form: &[u8], out: &mut [u8], pen: Pen, seg: SegmentationParams) -> Pen {
-    let s = text_rows::segmentation_row(seg);
+    let s = text_setting_rows::segmentation_row(seg);
     let pen = row(form, out, pen, &s);
     let pen = feature_flags(form, out, pen, seg);
     let pen = feature_data(form, out, pen, seg);
@@ -264,18 +264,18 @@ fn header_colors(form: &[u8], out: &mut [u8], pen: Pen, h: Header) -> Pen {
 }
 
 fn header_picture(form: &[u8], out: &mut [u8], pen: Pen, h: Header) -> Pen {
-    let s = text_rows::picture_row(h);
+    let s = text_record_rows::picture_row(h);
     row(form, out, pen, &s)
 }
 
 fn header_sources(form: &[u8], out: &mut [u8], pen: Pen, h: Header) -> Pen {
-    let s = text_rows::source_row(h);
+    let s = text_record_rows::source_row(h);
     let pen = row(form, out, pen, &s);
     ended(form, out, pen)
 }
 
 fn header_end(form: &[u8], out: &mut [u8], pen: Pen, h: Header) -> Pen {
-    let s = text_rows::end_row(h);
+    let s = text_record_rows::end_row(h);
     let pen = row(form, out, pen, &s);
     ended(form, out, pen)
 }
@@ -319,7 +319,7 @@ fn slots(
     at: usize,
     sizes: [FrameSize; ReaderState::REF_FRAMES],
 ) -> usize {
-    let s = text_rows::slot_row(sizes);
+    let s = text_record_rows::slot_row(sizes);
     let pen = start(form, at, SLOTS);
     let pen = row(form, out, pen, &s);
     let pen = ended(form, out, pen);
@@ -347,7 +347,7 @@ fn put_state(form: &[u8], out: &mut [u8], at: usize, st: ReaderState) -> usize {
 }
 
 fn put_segment(form: &[u8], out: &mut [u8], pen: Pen, i: usize, record: Segmentation) -> usize {
-    let s = text_rows::segment_row(record);
+    let s = text_record_rows::segment_row(record);
     let pen = value(form, out, pen, i as u64);
     let pen = row(form, out, pen, &s);
     let pen = ended(form, out, pen);
