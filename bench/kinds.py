@@ -1,4 +1,4 @@
-"""Headers of every kind that update_segmentation goes by, in the form that read_segments reads."""
+"""Headers of every kind that update_segmentation goes by, in the form that test_segments reads."""
 
 import os
 import sys

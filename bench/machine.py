@@ -96,7 +96,9 @@ class Machine:
         done = run([os.path.join(root, "bin", "qemu-x86_64"), "-cpu", self.processor, "-L", os.path.join(BUILT, "root"),
                     "-E", "LD_LIBRARY_PATH=" + library, "-plugin", plugin, path], given,
                    env={**os.environ, "LD_LIBRARY_PATH": os.path.join(root, "lib", f"{platform.machine()}-linux-gnu")})
-        return {function: int(count) for count, function in (line.split(" ", 1) for line in done.stderr.decode().splitlines())}
+        # Beside the counts the program says how it ended.
+        said = [line.split(" ", 1) for line in done.stderr.decode().splitlines() if line != "status 0"]
+        return {function: int(count) for count, function in said}
 
     # Programs.
 
@@ -171,5 +173,5 @@ def seconds(words, path):
     """The time of a run that reads the file."""
     with open(path, "rb") as file:
         start = time.perf_counter()
-        subprocess.run(words, stdin=file, stdout=subprocess.DEVNULL, check=True)
+        subprocess.run(words, stdin=file, stdout=subprocess.DEVNULL, stderr=subprocess.DEVNULL, check=True)
         return time.perf_counter() - start

@@ -39,4 +39,9 @@ if grep -i x86 "$kept/native.ll"; then
 fi
 "$clang" --target=aarch64-unknown-linux-gnu --no-default-config -Werror -ffunction-sections -fdata-sections -mllvm -trap-unreachable \
     -mllvm -no-trap-after-noreturn -fPIE -O3 -x ir -c "$kept/native.ll" -o "$kept/native.o"
-cc -pie -o "$out" "$kept/native.o"
+# The kit's C code for `os` is for x86-64. This is what the timed programs call of it.
+cat >"$kept/os.c" <<'END'
+#include <errno.h>
+int rattle_errno(void) { return errno; }
+END
+cc -O2 -pie -o "$out" "$kept/native.o" "$kept/os.c"

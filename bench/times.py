@@ -44,7 +44,7 @@ def row(name, turns, rust, here, given, runs, others=()):
 def counted(machine, title, what, runs):
     series = [one for _, one in chunks.recordings()]
     given = b"".join(chunks.each(what, TURNS[what], one) for one in series)
-    rust, here = [machine.rust(JUDGE, native=True), "--digest"], machine.native("digest")
+    rust, here = [machine.rust(JUDGE, native=True), "--digest"], machine.native("test_digest")
     head(title, "", "The Rust", "Here")
     return row("all recordings", TURNS[what] * sum(map(len, series)), rust, here, given, runs)
 
@@ -62,6 +62,6 @@ def listing(machine, runs):
     with open(path, "rb") as file:
         data = file.read()
     copies = BYTES // len(data) + 1
-    rust, here = [machine.rust(JUDGE, native=True), "--list"], machine.native("list")
+    rust, here = [machine.rust(JUDGE, native=True), "--list"], machine.native("tool_list")
     head("The listing: nanoseconds for a record", f"{BYTES // 1000000} MB", "The Rust", "Here", "cat")
     return row(LONG, copies * len(ivf_chunks(path)), rust, here, data[:32] + data[32:] * copies, runs, [["cat"]])

@@ -8,7 +8,7 @@
 # and ends with `take "$@"`. So every word is judged before anything is built.
 #
 # A program can't return a status, so its last line on standard error says how it ended: `status 0`, `status 1`,
-# `can't read: REASON` of its standard input, or `can't ..: REASON`. The lines before that are passed on.
+# `can't read: REASON` of its standard input, or `can't ..: REASON` of anything else. The lines before are passed on.
 #
 # Descriptors: 3 the program's input; 4 standard output; 5 what the program says, 6 where it says it; 7 the terminal;
 # 9 the build's lock.
@@ -18,10 +18,12 @@ bin=${self%/*}
 root=${bin%/*}
 name=${self##*/}
 target=$root/target
-newline='
-'
-# What runs and has to be ended with this shell: the process that is waited for, the line on the terminal, the lock.
-child='' shower='' held=''
+# What has to be ended with this shell: the process that is waited for, the line on the terminal, the lock. Last, which
+# process was noted here last.
+child='' shower='' held='' noted=''
+# A program without an input of its own reads nothing.
+exec 3< /dev/null
+file='its input'
 
 # Words.
 
@@ -135,19 +137,23 @@ find_program() {
 
 # The crates that a program reaches by crates.txt, and itself.
 reach() {
-    crates='' more=$1 lines=$newline$(cat "$root/crates.txt")
-    while [ -n "$more" ]; do
-        next=''
-        for crate in $more; do
-            case " $crates " in *" $crate "*) continue ;; esac
-            # The others are the kit's.
-            [ -d "$root/crates/$crate" ] || continue
-            crates="$crates $crate"
-            uses=${lines#*"$newline$crate:"}
-            uses=${uses%%"$newline"*}
-            next="$next ${uses%%#*}"
+    crates=" $1 " before=''
+    set --
+    # From the last line on: what uses others stands behind them, so that one walk finds nearly all.
+    while IFS= read -r line; do set -- "${line%%#*}" "$@"; done < "$root/crates.txt"
+    while [ "$crates" != "$before" ]; do
+        before=$crates
+        for line; do
+            case $crates in *" ${line%%:*} "*) add_crates "${line#*:}" ;; esac
         done
-        more=$next
+    done
+}
+
+add_crates() {
+    for crate in $1; do
+        case $crates in *" $crate "*) continue ;; esac
+        # The others are the kit's.
+        [ ! -d "$root/crates/$crate" ] || crates="$crates$crate "
     done
 }
 
@@ -211,10 +217,10 @@ far_read() {
 
 # Waits for the process that was started last; on a terminal a function says how far it is.
 attend() {
-    child=$!
+    child=$! noted=$!
     if [ -t 2 ]; then
-        show "$1" "$child" > /dev/null 5<&- 9>&- &
-        shower=$!
+        show "$1" "$child" > /dev/null 3<&- 5<&- 9>&- &
+        shower=$! noted=$!
     fi
     wait "$child" 2> /dev/null
     ended=$? child=''
@@ -223,12 +229,12 @@ attend() {
 
 # A line on the terminal, anew each second. It is short, and what is printed there next stands over it.
 show() {
-    nap='' text=''
-    trap 'wipe; kill $nap; exit' TERM
+    text=''
+    trap '' HUP INT QUIT TTOU
+    trap 'wipe; kill -KILL $!; exit' TERM
     while kill -0 "$2"; do
         sleep 1 &
-        nap=$!
-        wait "$nap"
+        wait "$!"
         next=$("$1" "$2") || continue
         text=$next
         printf '\r%s\r' "$text" >&7
@@ -245,13 +251,17 @@ hide() {
     shower=''
 }
 
-# Ends what still runs. A build is a session of its own, with all that it started.
+# Ends what still runs, and only then waits. A build is a session of its own, with all that it started. What was started
+# this moment may not be noted yet, and may still be this shell, which would take any other signal than KILL.
 leave() {
     trap '' HUP INT QUIT TERM
-    hide
-    [ -z "$child" ] || { kill "$child"; kill -- "-$child"; wait "$child"; } 2> /dev/null
+    set +u
+    [ "$!" = "$noted" ] || kill -KILL "$!" "-$!"
+    [ -z "$child" ] || kill -KILL "$child" "-$child"
+    [ -z "$shower" ] || kill "$shower"
+    wait
     [ -z "$held" ] || rm -f "$held"
-}
+} 2> /dev/null
 
 trap leave EXIT
 trap 'exit 129' HUP
@@ -264,8 +274,9 @@ trap 'exit 143' TERM
 # Has rt prove and build a program. Two launches don't build into each other.
 build() {
     log=$target/build.log lock=$target/build.lock
-    said=$({ LC_ALL=C mkdir -p "$target" && LC_ALL=C touch "$lock"; } 2>&1) ||
-        fail "can't build in $target: ${said##*: }; make room there, or let VP9_READER_PROGRAMS name built programs"
+    said=$({ LC_ALL=C mkdir -p "$target" && LC_ALL=C touch "$lock" "$log"; } 2>&1) ||
+        fail "can't build in $target: ${said##*: }; make it writable, or let VP9_READER_PROGRAMS name a folder of \
+built programs"
     take_lock
     # Another launch may have built it meanwhile.
     is_built "$1" || rebuild "$1"
@@ -278,7 +289,7 @@ rebuild() {
     echo "$(($# - 1)) crates" > "$log"
     [ -t 2 ] || echo "bin/$name: proving and building $1: $(($# - 1)) crates, which takes some minutes" >&2
     # What is changed from here on is newer than the program.
-    touch "$lock"
+    touch "$target/build.begun"
     # rt wouldn't link it again.
     [ -x "$program" ] || rm -f "$target/stamp/$1"
     own=$(command -v setsid) || own=''
@@ -286,7 +297,7 @@ rebuild() {
     attend far_built
     [ "$ended" -eq 0 ] || fail "the build failed: see $log"
     [ -x "$program" ] || fail "the build left no program: remove $target and try again"
-    touch -r "$lock" "$program"
+    touch -r "$target/build.begun" "$program"
 }
 
 far_built() {

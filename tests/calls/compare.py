@@ -3,8 +3,8 @@
 
 Usage: compare.py [--program PROGRAM] [--judge JUDGE] [--write DIR]
 
-PROGRAM is the proved program calls (default target/bin/calls, made by `rt check calls`); crates/test_calls/src/main.rt
-says what it reads. JUDGE is our driver over the Rust (tests/judge), which has try_from and the records of a
+PROGRAM is the proved program test_calls (default target/bin/test_calls, made by `rt check test_calls`);
+crates/test_calls/src/main.rt says what it reads. JUDGE is our driver over the Rust (tests/judge), which has try_from and the records of a
 whole IVF file; without it those are held to docs/RULES.md alone. The same run makes the same calls.
 --write DIR makes crates/test_calls' stdin and stdout, a few of the calls with docs/RULES.md's answers.
 
@@ -117,7 +117,7 @@ def run(words, data):
 
 
 def differences(name, calls, program_words, show=3):
-    got = run(program_words, b"".join(call.record() for call in calls)).split(b"\n")[:-1]
+    got = program.answer(program_words, b"".join(call.record() for call in calls)).split(b"\n")[:-1]
     assert len(got) == len(calls), f"{name}: {len(calls)} calls, {len(got)} lines"
     wrong = [(call, line) for call, line in zip(calls, got) if line != b" " + call.answer]
     for call, line in wrong[:show]:
@@ -147,7 +147,7 @@ def write_example(folder):
 
 def main():
     options = argparse.ArgumentParser(description=__doc__, formatter_class=argparse.RawDescriptionHelpFormatter)
-    options.add_argument("--program", default=program.built("calls"))
+    options.add_argument("--program", default=program.built("test_calls"))
     options.add_argument("--judge")
     options.add_argument("--write")
     given = options.parse_args()

@@ -6,12 +6,14 @@ import signal
 import subprocess
 import time
 
-from scratch import PATIENCE, Done, Skipped, Terminal, Wrong, as_nobody, hold, is_root, run, same, screen, start_on, write
+from scratch import (PATIENCE, Cases, Done, Skipped, Terminal, Wrong, as_nobody, hold, is_root, run, same, screen,
+                     start_on, write)
 from words import path_without
 
+case = Cases()
 LISTED = "tool_list\ndata\n"
 START = "bin/list: proving and building tool_list: 4 crates, which takes some minutes"
-ADVICE = "make room there, or let VP9_READER_PROGRAMS name built programs"
+ADVICE = "make it writable, or let VP9_READER_PROGRAMS name a folder of built programs"
 # What a prover is to rt: a process beside it.
 PROVER = "sleep 600 &\nsleep 600"
 
@@ -35,21 +37,25 @@ def builds(scratch, calls, said, given=b"data\n", **other):
 
 # When it is built.
 
+@case
 def the_first_launch(scratch):
     builds(scratch, ["check tool_list"], START)
 
 
+@case
 def built_once(scratch):
     older_sources(scratch)
     builds(scratch, ["check tool_list"], START)
     builds(scratch, ["check tool_list"], "")
 
 
+@case
 def the_long_form(scratch):
     said = START.replace("tool_list", "tool_trace").replace("4", "3")
     hold(scratch.list("--trace", given=b"data\n"), 0, "tool_trace\ndata\n", said)
 
 
+@case
 def a_newer_source(scratch):
     scratch.build()
     older(scratch.target("bin", "tool_list"))
@@ -59,6 +65,7 @@ def a_newer_source(scratch):
     builds(scratch, ["check tool_list"], "")
 
 
+@case
 def a_newer_source_of_another(scratch):
     older_sources(scratch)
     scratch.build()
@@ -67,6 +74,7 @@ def a_newer_source_of_another(scratch):
     builds(scratch, [], "")
 
 
+@case
 def a_source_that_changes_meanwhile(scratch):
     """What was changed during a build isn't in the program."""
     scratch.make_rt(proving="sleep 0.1; touch crates/base_bits/src/lib.rt")
@@ -75,6 +83,7 @@ def a_source_that_changes_meanwhile(scratch):
     builds(scratch, ["check tool_list"] * 2, START)
 
 
+@case
 def a_program_that_was_removed(scratch):
     """rt links no program whose stamp is there."""
     scratch.build()
@@ -83,6 +92,7 @@ def a_program_that_was_removed(scratch):
     builds(scratch, ["check tool_list"], START)
 
 
+@case
 def another_folder_of_programs(scratch):
     folder = os.path.join(scratch.folder, "programs")
     shutil.copy(os.path.join(scratch.kit, "program"), os.path.join(os.makedirs(folder) or folder, "tool_list"))
@@ -92,6 +102,7 @@ def another_folder_of_programs(scratch):
     hold(scratch.list("--trace", env={"VP9_READER_PROGRAMS": folder}), 2, "", said)
 
 
+@case
 def a_common_name_changes_nothing(scratch):
     scratch.build()
     builds(scratch, [], "", env={"PROGRAMS": "/nonexistent"})
@@ -99,8 +110,10 @@ def a_common_name_changes_nothing(scratch):
 
 # What is said meanwhile.
 
+@case
 def a_line_on_a_terminal(scratch):
-    scratch.make_rt(proving=f"{scratch.waits('first')}; echo 'rt: text_listing proved (unchanged since ..)'\n{scratch.waits()}")
+    proved = "echo 'rt: text_listing proved (unchanged since it was last proved)'"
+    scratch.make_rt(proving=f"{scratch.waits('first')}\n{proved}\n{scratch.waits()}")
 
     def meanwhile(terminal):
         terminal.wait_for(b"\rproving and building: 2 of 4 crates\r")
@@ -114,6 +127,7 @@ def a_line_on_a_terminal(scratch):
     same("processes left", [], scratch.left())
 
 
+@case
 def nothing_on_a_terminal_where_it_is_quick(scratch):
     done = scratch.list_on_terminal(scratch.file("a.ivf"))
     hold(done, 0, LISTED, "")
@@ -121,6 +135,7 @@ def nothing_on_a_terminal_where_it_is_quick(scratch):
 
 # What goes wrong.
 
+@case
 def a_build_that_fails(scratch):
     scratch.make_rt(proving='echo "rt: $2 NOT PROVED (exit 1, 3 s)"; exit 1')
     for _ in range(2):
@@ -131,6 +146,7 @@ def a_build_that_fails(scratch):
             raise Wrong(f"want rt's words in the log, got {said!r}")
 
 
+@case
 def a_build_that_fails_on_a_terminal(scratch):
     scratch.make_rt(proving=scratch.waits() + "; exit 1")
 
@@ -141,6 +157,7 @@ def a_build_that_fails_on_a_terminal(scratch):
     same("what is left to be seen", f"bin/list: the build failed: see {scratch.target('build.log')}", screen(done.said))
 
 
+@case
 def a_program_that_ran_badly(scratch):
     """It is linked, and isn't taken by the next launch either."""
     scratch.make_rt(running="exit 1")
@@ -149,30 +166,35 @@ def a_program_that_ran_badly(scratch):
         same("calls of rt", ["check tool_list"] * calls, scratch.calls())
 
 
+@case
 def a_build_without_a_program(scratch):
     scratch.make_rt(proving="exit 0")
     said = f"{START}\nbin/list: the build left no program: remove {scratch.target()} and try again"
     hold(scratch.list(), 2, "", said)
 
 
+@case
 def no_kit(scratch):
     loader = f"/nonexistent/on/{os.uname().machine}/toolchain/lib/ld-linux-x86-64.so.2"
     said = f"bin/list: the kit has no {loader}: let RATTLE_HOME name the kit's folder"
     hold(scratch.list(env={"RATTLE_HOME": "/nonexistent"}), 2, "", said)
 
 
+@case
 def a_copy_outside_its_repository(scratch):
     os.remove(os.path.join(scratch.root, "crates.txt"))
     said = f"bin/list: no {scratch.root}/crates.txt: bin/list works in its repository, or by a link to it"
     hold(scratch.list(), 2, "", said)
 
 
+@case
 def a_file_where_target_belongs(scratch):
     write(scratch.target(), "")
     hold(scratch.list(), 2, "", f"bin/list: can't build in {scratch.target()}: File exists; {ADVICE}")
     same("calls of rt", [], scratch.calls())
 
 
+@case
 def a_tree_that_may_not_be_written(scratch):
     if not is_root():
         os.chmod(scratch.root, 0o555)
@@ -181,10 +203,12 @@ def a_tree_that_may_not_be_written(scratch):
     hold(done, 2, "", f"bin/list: can't build in {scratch.target()}: Permission denied; {ADVICE}")
 
 
+@case
 def a_target_that_may_not_be_written(scratch):
     os.makedirs(scratch.target())
     os.chmod(scratch.target(), 0o555)
-    hold(scratch.list(**as_nobody()), 2, "", f"bin/list: can't build in {scratch.target()}: Permission denied; {ADVICE}")
+    said = f"bin/list: can't build in {scratch.target()}: Permission denied; {ADVICE}"
+    hold(scratch.list(**as_nobody()), 2, "", said)
 
 
 def on_read_only_tree(scratch, **other):
@@ -198,11 +222,13 @@ def on_read_only_tree(scratch, **other):
     return done
 
 
+@case
 def a_read_only_tree(scratch):
     done = on_read_only_tree(scratch)
     hold(done, 2, "", f"bin/list: can't build in {scratch.target()}: Read-only file system; {ADVICE}")
 
 
+@case
 def a_read_only_tree_that_is_built(scratch):
     scratch.build()
     hold(on_read_only_tree(scratch, given=b"data\n"), 0, LISTED, "")
@@ -211,8 +237,8 @@ def a_read_only_tree_that_is_built(scratch):
 # Two at once.
 
 def start(scratch, **env):
-    return subprocess.Popen(scratch.command(scratch.file("a.ivf")), env={**scratch.env, **env}, stdin=subprocess.DEVNULL,
-                            stdout=subprocess.PIPE, stderr=subprocess.PIPE)
+    return subprocess.Popen(scratch.command(scratch.file("a.ivf")), env={**scratch.env, **env},
+                            stdin=subprocess.DEVNULL, stdout=subprocess.PIPE, stderr=subprocess.PIPE)
 
 
 def both_list(scratch, first, second):
@@ -225,15 +251,18 @@ def both_list(scratch, first, second):
     same("locks left", False, os.path.lexists(scratch.target("build.lock.held")))
 
 
+@case
 def two_launches_at_once(scratch):
     scratch.make_rt(proving=scratch.waits())
     first = start(scratch)
     same("the first says", START + "\n", first.stderr.readline().decode())
     second = start(scratch)
-    same("the second says", "bin/list: waiting for another launch, which is building\n", second.stderr.readline().decode())
+    waiting = "bin/list: waiting for another launch, which is building\n"
+    same("the second says", waiting, second.stderr.readline().decode())
     both_list(scratch, first, second)
 
 
+@case
 def two_launches_without_flock(scratch):
     path = path_without(scratch, "flock", "setsid")
     scratch.make_rt(proving=scratch.waits())
@@ -245,6 +274,7 @@ def two_launches_without_flock(scratch):
     both_list(scratch, first, second)
 
 
+@case
 def a_lock_that_was_left_behind(scratch):
     """Its owner was killed: no process has such a number."""
     os.makedirs(scratch.target())
@@ -269,14 +299,17 @@ def ends_a_build(scratch, status, end):
     builds(scratch, ["check tool_list"] * 2, START)
 
 
+@case
 def ctrl_c_during_a_build(scratch):
     ends_a_build(scratch, 130, lambda terminal, _: os.write(terminal.master, b"\x03"))
 
 
+@case
 def a_build_whose_launch_alone_is_ended(scratch):
     ends_a_build(scratch, 143, lambda _, running: running.send_signal(signal.SIGTERM))
 
 
+@case
 def ctrl_c_while_waiting_for_a_build(scratch):
     scratch.make_rt(proving=PROVER)
     first = subprocess.Popen(scratch.command(), env=scratch.env, stdin=subprocess.DEVNULL, stdout=subprocess.DEVNULL,
@@ -297,14 +330,3 @@ def ends_waiting(scratch):
     same("status", 130, second.wait(PATIENCE))
     terminal.close()
     same("calls of rt", ["check tool_list"], scratch.calls())
-
-
-CASES = (the_first_launch, built_once, the_long_form, a_newer_source, a_newer_source_of_another,
-         a_source_that_changes_meanwhile, a_program_that_was_removed, another_folder_of_programs,
-         a_common_name_changes_nothing,
-         a_line_on_a_terminal, nothing_on_a_terminal_where_it_is_quick,
-         a_build_that_fails, a_build_that_fails_on_a_terminal, a_program_that_ran_badly, a_build_without_a_program, no_kit,
-         a_copy_outside_its_repository, a_file_where_target_belongs, a_tree_that_may_not_be_written,
-         a_target_that_may_not_be_written, a_read_only_tree, a_read_only_tree_that_is_built,
-         two_launches_at_once, two_launches_without_flock, a_lock_that_was_left_behind,
-         ctrl_c_during_a_build, a_build_whose_launch_alone_is_ended, ctrl_c_while_waiting_for_a_build)

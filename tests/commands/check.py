@@ -3,8 +3,8 @@
 
 usage: check.py [GROUP[.CASE] ...]
 
-The groups `words`, `building` and `running` run bin/ in a scratch repository with a made-up kit; `programs` runs bin/list
-with the programs of the folder that VP9_READER_PROGRAMS names, or else of target/bin.
+The groups `words`, `building` and `running` run bin/ in a scratch repository with a made-up kit; `programs` runs
+bin/list with the programs of the folder that VP9_READER_PROGRAMS names, or else of target/bin.
 
 Exit 0 if all is as held, 1 if not."""
 
@@ -54,7 +54,7 @@ def main():
     failures = 0
     for group in GROUPS:
         name = group.__name__
-        cases = [case for case in group.CASES if not wanted or name in wanted or f"{name}.{case.__name__}" in wanted]
+        cases = [case for case in group.case if not wanted or name in wanted or f"{name}.{case.__name__}" in wanted]
         if cases:
             failures += check(f"commands, {name}", cases)
     sys.exit(1 if failures else 0)

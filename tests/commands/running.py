@@ -4,8 +4,9 @@ import os
 import signal
 import subprocess
 
-from scratch import PATIENCE, Terminal, hold, run, same, screen, start_on
+from scratch import PATIENCE, Cases, Terminal, hold, run, same, screen, start_on
 
+case = Cases()
 # It says that it is there, and reads no more.
 WAITS = "#!/bin/sh\necho here\nexec sleep 600\n"
 
@@ -19,62 +20,76 @@ def ended(scratch, text, *words, **other):
 
 # The last line says how it ended.
 
+@case
 def status_0(scratch):
     hold(ended(scratch, "echo listed; echo status 0 >&2"), 0, "listed\n", "")
 
 
+@case
 def status_1(scratch):
     hold(ended(scratch, "echo file refused 7; echo status 1 >&2"), 1, "file refused 7\n", "")
 
 
+@case
 def a_read_error_of_a_file(scratch):
     path = scratch.file("a.ivf")
     done = ended(scratch, 'echo "can\'t read: Input/output error" >&2', path)
     hold(done, 2, "", f"bin/list: can't read {path}: Input/output error")
 
 
+@case
 def a_read_error_of_standard_input(scratch):
     for words in ([], ["-"]):
         done = ended(scratch, 'echo "can\'t read: Input/output error" >&2', *words)
         hold(done, 2, "", "bin/list: can't read standard input: Input/output error")
 
 
+@case
 def a_write_error(scratch):
     done = ended(scratch, 'echo "can\'t write: No space left on device" >&2')
     hold(done, 2, "", "bin/list: can't write: No space left on device")
 
 
+@case
 def lines_before_the_last_are_passed_on(scratch):
-    hold(ended(scratch, "echo line 3: wrong >&2; echo ' line  4\\' >&2; echo status 1 >&2"), 1, "", "line 3: wrong\n line  4\\")
+    lines = "line 3: wrong\n line  4\\"
+    hold(ended(scratch, f"printf '%s\n' '{lines}' 'status 1' >&2"), 1, "", lines)
 
 
+@case
 def no_last_line(scratch):
     hold(ended(scratch, "echo listed"), 2, "listed\n", "bin/list: the program didn't say how it ended")
 
 
+@case
 def another_last_line(scratch):
     for line in ("status 2", "status 01", "status", "status 0 ", "error while loading"):
         done = ended(scratch, f"echo '{line}' >&2")
         hold(done, 2, "", f"bin/list: the program didn't say how it ended: {line}")
 
 
+@case
 def a_last_line_without_its_end(scratch):
     hold(ended(scratch, "printf 'status 1' >&2"), 1, "", "")
 
 
+@case
 def another_exit_status(scratch):
     hold(ended(scratch, "echo status 0 >&2; exit 3"), 2, "", "bin/list: the program didn't say how it ended: status 0")
 
 
+@case
 def a_program_ended_by_a_signal(scratch):
     for name in ("KILL", "SEGV", "TERM"):
         hold(ended(scratch, f"kill -{name} $$"), 2, "", f"bin/list: the program was ended by signal {name}")
 
 
+@case
 def a_pipe_that_is_closed(scratch):
     hold(ended(scratch, "kill -PIPE $$"), 2, "", "bin/list: can't write: Broken pipe")
 
 
+@case
 def a_program_that_cannot_be_run(scratch):
     scratch.make_program("#!/nonexistent\n")
     scratch.build()
@@ -83,23 +98,27 @@ def a_program_that_cannot_be_run(scratch):
     same("lines said", 1, done.said.count("\n"))
 
 
+@case
 def standard_error_that_is_closed(scratch):
     scratch.build()
     words = ["sh", "-c", 'exec "$0" "$@" 2>&-', *scratch.command(scratch.file("a.ivf"))]
     hold(run(words, env=scratch.env), 0, "tool_list\ndata\n")
 
 
+@case
 def descriptors_of_the_program(scratch):
     """It has the three that it uses, and no other of the command's."""
-    done = ended(scratch, "cd /proc/self/fd; for n in 3 4 5 6 7 8 9; do [ ! -e $n ] || echo $n; done; echo status 0 >&2")
-    hold(done, 0, "", "")
+    listed = "cd /proc/self/fd; for n in 3 4 5 6 7 8 9; do [ ! -e $n ] || echo $n; done; echo status 0 >&2"
+    hold(ended(scratch, listed), 0, "", "")
 
 
+@case
 def the_current_folder_and_the_environment(scratch):
     done = ended(scratch, 'pwd; echo "$SAID"; echo status 0 >&2', cwd=scratch.folder, env={"SAID": "so"})
     hold(done, 0, f"{scratch.folder}\nso\n", "")
 
 
+@case
 def no_files_are_left(scratch):
     """Neither in the repository nor where temporary files go."""
     temporary = os.path.join(scratch.folder, "tmp")
@@ -115,7 +134,8 @@ def no_files_are_left(scratch):
 
 def slow(scratch, wait=""):
     """A program that reads half of its input and waits, two seconds where nothing else is said."""
-    scratch.make_program(f"#!/bin/sh\nhead -c 5000 > /dev/null\n{wait or 'sleep 2'}\necho file refused 8\necho status 1 >&2\n")
+    reads, prints = "head -c 5000 > /dev/null", "echo file refused 8; echo status 1 >&2"
+    scratch.make_program(f"#!/bin/sh\n{reads}\n{wait or 'sleep 2'}\n{prints}\n")
     scratch.build()
     return scratch.file("a.ivf", bytes(10000))
 
@@ -132,29 +152,35 @@ def shows_half(scratch, *words, **other):
     same("processes left", [], scratch.left())
 
 
+@case
 def a_line_on_a_terminal(scratch):
     shows_half(scratch, slow(scratch, scratch.waits()))
 
 
+@case
 def a_line_for_standard_input(scratch):
     with open(slow(scratch, scratch.waits()), "rb") as file:
         shows_half(scratch, given=file)
 
 
+@case
 def no_line_for_a_pipe(scratch):
     slow(scratch)
     hold(scratch.list_on_terminal(), 1, "file refused 8\n", "")
 
 
+@case
 def no_line_where_it_is_quick(scratch):
     scratch.build()
     hold(scratch.list_on_terminal(scratch.file("a.ivf")), 0, "tool_list\ndata\n", "")
 
 
+@case
 def no_line_without_a_terminal(scratch):
     hold(scratch.list(slow(scratch)), 1, "file refused 8\n", "")
 
 
+@case
 def a_line_under_what_is_printed(scratch):
     """Printed to the same terminal, the next line stands over it."""
     path = slow(scratch, scratch.waits())
@@ -184,10 +210,12 @@ def ends(scratch, status, end, program=WAITS):
     same("what is left to be seen", "", screen(terminal.shown.decode()))
 
 
+@case
 def ctrl_c(scratch):
     ends(scratch, 130, lambda terminal, _: os.write(terminal.master, b"\x03"))
 
 
+@case
 def ctrl_c_after_a_line(scratch):
     def end(terminal, _):
         terminal.wait_for(b"% read")
@@ -195,15 +223,18 @@ def ctrl_c_after_a_line(scratch):
     ends(scratch, 130, end)
 
 
+@case
 def ctrl_backslash(scratch):
     ends(scratch, 131, lambda terminal, _: os.write(terminal.master, b"\x1c"))
 
 
+@case
 def a_signal_to_the_command_alone(scratch):
     for number in (signal.SIGINT, signal.SIGTERM, signal.SIGHUP, signal.SIGQUIT):
         ends(scratch, 128 + number, lambda _, running: running.send_signal(number))
 
 
+@case
 def a_terminal_as_input(scratch):
     """The program reads from it, as one that is started by hand."""
     scratch.build()
@@ -215,6 +246,7 @@ def a_terminal_as_input(scratch):
     same("printed", b"tool_list\ntyped\n", out)
 
 
+@case
 def a_reader_that_goes(scratch):
     """A closed output ends the command, and not only its program."""
     scratch.make_program("#!/bin/sh\nwhile echo line; do :; done 2> /dev/null\nkill -PIPE $$\n")
@@ -226,12 +258,3 @@ def a_reader_that_goes(scratch):
     same("said", b"bin/list: can't write: Broken pipe\n", running.stderr.read())
     same("status", 2, running.wait(PATIENCE))
     running.stderr.close()
-
-
-CASES = (status_0, status_1, a_read_error_of_a_file, a_read_error_of_standard_input, a_write_error,
-         lines_before_the_last_are_passed_on, no_last_line, another_last_line, a_last_line_without_its_end,
-         another_exit_status, a_program_ended_by_a_signal, a_pipe_that_is_closed, a_program_that_cannot_be_run,
-         standard_error_that_is_closed, descriptors_of_the_program, the_current_folder_and_the_environment, no_files_are_left,
-         a_line_on_a_terminal, a_line_for_standard_input, no_line_for_a_pipe, no_line_where_it_is_quick,
-         no_line_without_a_terminal, a_line_under_what_is_printed,
-         ctrl_c, ctrl_c_after_a_line, ctrl_backslash, a_signal_to_the_command_alone, a_terminal_as_input, a_reader_that_goes)

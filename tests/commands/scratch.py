@@ -1,10 +1,12 @@
 """What the cases share: a scratch repository with a made-up kit, and how a command is run and held to its answer."""
 
+import contextlib
 import fcntl
 import os
 import platform
 import pty
 import shutil
+import signal
 import stat
 import subprocess
 import tempfile
@@ -21,7 +23,7 @@ PATIENCE = 60
 # The crates that tool_list reaches are four, tool_trace three; the last line's isn't reached.
 CRATES = """# the crates
 base_bits:
-text_line: base_bits   # a comment
+text_line: base_bits   # not test_tables
 text_listing: text_line base_bits io
 tool_list: text_listing io os
 tool_trace: text_line os
@@ -45,10 +47,16 @@ cp "$kit/program" "target/bin/$2"
 echo "rt: $2 ran, and wrote what its file 'stdout' has (0 s)"
 : > "target/stamp/$2"
 """
-
-
 # In such a script: it waits until a case lets it go on, so that no case goes by the machine's speed.
 WAIT = 'until [ -e "%s" ]; do sleep 0.05; done'
+
+
+class Cases(list):
+    """The cases of a group: a function with this as its decorator is one."""
+
+    def __call__(self, function):
+        self.append(function)
+        return function
 
 
 class Wrong(Exception):
@@ -100,7 +108,7 @@ def lines(path):
 
 
 class Scratch:
-    """A repository with a copy of bin/ and a few crates, and a kit whose rt and loader are scripts: no minutes, no proofs."""
+    """A repository with a copy of bin/ and a few crates, and a kit whose rt and loader are scripts."""
 
     def __init__(self, folder):
         self.folder = folder
@@ -161,26 +169,29 @@ class Scratch:
         return on_terminal(self.command(*words), {**self.env, **other.pop("env", {})}, **other)
 
     def left(self):
-        """The processes that outlived the command, by the mark in their environment."""
+        """The processes that outlived the command."""
         end = time.time() + 0.5
-        while found := marked(self.mark):
+        while found := list(self.running().values()):
             if time.time() > end:
                 return found
             time.sleep(0.02)
         return []
 
+    def running(self):
+        """The words of each process of this case by its number: it has the case's mark in its environment."""
+        found = {}
+        for number in filter(str.isdigit, os.listdir("/proc")):
+            if f"COMMANDS_CASE={self.mark}\0".encode() in of_process(number, "environ"):
+                found[int(number)] = of_process(number, "cmdline").replace(b"\0", b" ").decode()
+        return {number: words for number, words in found.items() if words}
 
-def marked(mark):
-    found = []
-    for name in filter(str.isdigit, os.listdir("/proc")):
-        try:
-            with open(f"/proc/{name}/environ", "rb") as file:
-                if f"COMMANDS_CASE={mark}\0".encode() in file.read():
-                    with open(f"/proc/{name}/cmdline", "rb") as words:
-                        found.append(words.read().replace(b"\0", b" ").decode())
-        except OSError:
-            continue
-    return list(filter(None, found))
+
+def of_process(number, name):
+    try:
+        with open(f"/proc/{number}/{name}", "rb") as file:
+            return file.read()
+    except OSError:
+        return b""
 
 
 class Room:
@@ -189,9 +200,14 @@ class Room:
     def __enter__(self):
         self.folder = tempfile.mkdtemp(prefix="commands-")
         os.chmod(self.folder, 0o755)
-        return Scratch(self.folder)
+        self.scratch = Scratch(self.folder)
+        return self.scratch
 
     def __exit__(self, *_):
+        """What a case that failed has left running is ended too."""
+        for number in self.scratch.running():
+            with contextlib.suppress(ProcessLookupError):
+                os.kill(number, signal.SIGKILL)
         shutil.rmtree(self.folder)
 
 
@@ -213,7 +229,7 @@ class Terminal:
         modes[3] &= ~termios.ECHO
         termios.tcsetattr(self.slave, termios.TCSANOW, modes)
         self.shown = b""
-        self.reader = threading.Thread(target=self.read)
+        self.reader = threading.Thread(target=self.read, daemon=True)
         self.reader.start()
 
     def read(self):

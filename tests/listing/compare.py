@@ -3,7 +3,7 @@
 
 usage: compare.py [--judge JUDGE]
 
-Runs target/bin/list (made by `rt check list`) on docs/RULES.md's example, on every recording of
+Runs target/bin/tool_list (made by `rt check tool_list`) on docs/RULES.md's example, on every recording of
 tests/recordings and on damaged files, and compares its lines with the model below, which is written
 from docs/RULES.md over tests/handmade/expect.py. The recordings are also held to ffmpeg's kept traces.
 Then bin/list: its statuses and its help. With --judge the recordings are held to the Rust, and nothing else is run.
@@ -157,17 +157,24 @@ def long_files():
 
 # The program.
 
-def command(name="list"):
+def command(name="tool_list"):
     return program.command(program.built(name), program.kit_tools())
 
 
+def printed(words, data):
+    """What a program prints of a file. It says last whether the file is refused."""
+    done = subprocess.run(words, input=data, capture_output=True, check=True)
+    program.hold_status(done, 1 if b"file refused " in done.stdout else 0)
+    return done.stdout.decode()
+
+
 def listing(data):
-    return subprocess.run(command(), input=data, capture_output=True, check=True).stdout.decode()
+    return printed(command(), data)
 
 
 def trace(data):
-    """The long form. The program takes a file behind a byte 2."""
-    return subprocess.run(command("trace"), input=b"\2" + data, capture_output=True, check=True).stdout.decode()
+    """The long form."""
+    return printed(command("tool_trace"), data)
 
 
 class Tally:
@@ -285,7 +292,8 @@ def with_ffmpeg():
 
 def peak(data):
     """The program's largest memory in kB, once it has read this and waits."""
-    running = subprocess.Popen(command(), stdin=subprocess.PIPE, stdout=subprocess.DEVNULL)
+    running = subprocess.Popen(command(), stdin=subprocess.PIPE, stdout=subprocess.DEVNULL,
+                               stderr=subprocess.DEVNULL)
     running.stdin.write(data)
     running.stdin.flush()
     with open(f"/proc/{running.pid}/status") as file:

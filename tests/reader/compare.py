@@ -4,8 +4,8 @@
 Usage: compare.py [--program PROGRAM] [--judge JUDGE] [--src SRC_DIR] [--tools DIR]
                   [--bent N] [--every N] [--show N]
 
-PROGRAM is the proved program trace (default target/bin/trace, made by
-`rt check trace`). README.md says what is put to it and what each answer is held to.
+PROGRAM is the proved program tool_trace (default target/bin/tool_trace, made by
+`rt check tool_trace`). README.md says what is put to it and what each answer is held to.
 --bent N adds N bent copies of the hand-made series. --every N takes only each N-th of the
 cut and bent example and real chunks and of the short chunks.
 
@@ -344,7 +344,7 @@ def compare_all(plan, given):
     with tempfile.TemporaryFile() as for_program, tempfile.TemporaryFile() as for_judge, \
             tempfile.TemporaryFile("w+") as from_program, tempfile.TemporaryFile("w+") as from_judge:
         write_inputs(plan, for_program, for_judge)
-        program.run(given.program, given.tools, for_program, from_program)
+        program.run(given.program, given.tools, for_program, from_program, "series")
         run_judge(given.judge, for_judge, from_judge)
         from_program.seek(0)
         from_judge.seek(0)
@@ -356,7 +356,7 @@ def compare_all(plan, given):
 
 def main():
     options = argparse.ArgumentParser(description="compare the proved reader with the Rust and the model")
-    options.add_argument("--program", default=program.built("trace"))
+    options.add_argument("--program", default=program.built("tool_trace"))
     options.add_argument("--judge", default=os.path.join(ROOT, "target", "judge", "judge"))
     options.add_argument("--src", default=os.path.join(ROOT, "..", "shared", "docs", "src"),
                          help="the folder of the crate's sources")

@@ -25,7 +25,7 @@ sys.path.insert(0, os.path.join(ROOT, "tests", "handmade"))
 
 import expect
 
-KEPT = os.path.join(ROOT, "crates", "digest")
+KEPT = os.path.join(ROOT, "crates", "test_digest")
 # A longer chunk of a recording is cut.
 WHOLE = 120
 

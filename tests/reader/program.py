@@ -13,8 +13,8 @@ FRESH = b"\0"
 
 
 def built(name):
-    """The path of a program: in the folder that PROGRAMS names, or else where `rt check` puts the proved one."""
-    return os.path.join(os.environ.get("PROGRAMS") or os.path.join(ROOT, "target", "bin"), name)
+    """The path of a program: in the folder that VP9_READER_PROGRAMS names, or where `rt check` puts the proved one."""
+    return os.path.join(os.environ.get("VP9_READER_PROGRAMS") or os.path.join(ROOT, "target", "bin"), name)
 
 
 def sized(chunk):
@@ -30,7 +30,7 @@ def record(chunk):
 
 
 def frame_record(chunk, offset, size):
-    """A single frame of a chunk as the program trace reads it."""
+    """A single frame of a chunk as the program tool_trace reads it."""
     return b"\3" + struct.pack("<QQ", offset, size) + sized(chunk)
 
 
@@ -46,13 +46,28 @@ def kit_tools():
     return os.path.join(home, "on", platform.machine(), "toolchain")
 
 
-def command(program, tools):
-    """It, under the kit's loader, and its emulator where there is one."""
+def command(program, tools, *words):
+    """It and its arguments, under the kit's loader, and its emulator where there is one."""
     emulator = os.path.join(tools, "bin", "qemu-x86_64")
     loader = os.path.join(tools, "lib", "ld-linux-x86-64.so.2")
-    return ([emulator] if os.access(emulator, os.X_OK) else []) + [loader, "--library-path", os.path.join(tools, "lib"), program]
+    return [*([emulator] if os.access(emulator, os.X_OK) else []), loader, "--library-path", os.path.join(tools, "lib"),
+            program, *words]
 
 
-def run(program, tools, given, output):
+def hold_status(done, status=0):
+    """A program can't return a status: it says last how it ended."""
+    if done.stderr != b"status %d\n" % status:
+        raise RuntimeError(f"{done.args}: want status {status}, got {done.stderr!r}")
+
+
+def answer(words, data):
+    """What a program prints of some bytes."""
+    done = subprocess.run(words, input=data, capture_output=True, check=True)
+    hold_status(done)
+    return done.stdout
+
+
+def run(program, tools, given, output, *words):
     """Runs it from file to file."""
-    subprocess.run(command(program, tools), stdin=given, stdout=output, check=True)
+    words = command(program, tools, *words)
+    hold_status(subprocess.run(words, stdin=given, stdout=output, stderr=subprocess.PIPE, check=True))

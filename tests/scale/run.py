@@ -5,7 +5,7 @@ Usage: run.py [--seed N] [--chunks N] [--minutes N] [--kinds KIND,..] [--jobs N]
               [--no-rust] [--program PROGRAM] [--second SECOND] [--judge JUDGE] [--src SRC_DIR] [--tools DIR]
        run.py --explain KIND NUMBER [--seed N] ..
 
-PROGRAM is the proved program digest (default target/bin/digest, made by `rt check digest`), SECOND the
+PROGRAM is the proved program test_digest (default target/bin/test_digest, made by `rt check test_digest`), SECOND the
 second reader (target/second/second), JUDGE our driver over the Rust (target/judge/judge). What can be built
 and isn't there is built. README.md says what is put and what each answer is held to.
 --chunks is the number in all; --minutes ends the run in time. --explain prints what the readers say in full of one chunk,
@@ -323,7 +323,7 @@ def rust_block(judge, data, proved):
 
 def explain_blocks(given, path, data):
     """The proved reader's long form, and where the others' isn't the same."""
-    proved = last_block(program.command(given.trace, given.tools), path)
+    proved = last_block(program.command(given.trace, given.tools, "series"), path)
     others = {"second": last_block([given.second, "--trace"], path)}
     if given.rust:
         others["the Rust"] = rust_block(given.judge, data, proved)
@@ -421,8 +421,8 @@ def read_options():
     options.add_argument("--table", action="store_true", help="print the counts as README.md's table")
     options.add_argument("--explain", nargs=2, metavar=("KIND", "NUMBER"))
     options.add_argument("--no-rust", action="store_true")
-    options.add_argument("--program", default=program.built("digest"))
-    options.add_argument("--trace", default=program.built("trace"), help="the proved program that prints the long form")
+    options.add_argument("--program", default=program.built("test_digest"))
+    options.add_argument("--trace", default=program.built("tool_trace"), help="the proved program that prints the long form")
     options.add_argument("--second", default=os.path.join(target, "second", "second"))
     options.add_argument("--judge", default=os.path.join(target, "judge", "judge"))
     options.add_argument("--generate", default=os.path.join(target, "scale", "generate"))

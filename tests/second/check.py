@@ -178,7 +178,7 @@ class Checker:
 # The cases.
 
 def document_cases(check):
-    """Document 01's numbers on each side of the line."""
+    """docs/RULES.md's numbers on each side of the line."""
     check.lines("K", K, ["0 0 key 0 14 64 64 255 14"])
     check.lines("K cut", K[:13], ["0 refused 6 frame 0"])
     check.lines("I after K", I, ["1 0 inter 0 10 64 64 1 10"], before=[K])
@@ -205,7 +205,7 @@ def tile_columns(check, width, least, most):
 
 def example(check):
     text = Results(check.program, FRESH + chunk(K)).text
-    check.equal("trace-format.md's example", text[:len(K_TEXT)], K_TEXT)
+    check.equal("docs/LONG-FORM.md's example", text[:len(K_TEXT)], K_TEXT)
     records = FRESH + chunk(K) + chunk(b"") + FRESH + chunk(b"") + state() + chunk(b"")
     firsts = [x[0] for x in Results(check.program, records).chunks]
     check.equal("chunk numbers", firsts, ["0 0 key 0 14 64 64 255 14", "1 refused 1 frame 0",

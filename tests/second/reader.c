@@ -263,7 +263,7 @@ static enum refusal frame_context(struct reading *r, struct header *h)
     return byte_field(r, 2, &h->frame_context_idx);
 }
 
-/* setup_past_independence( ), and document 01's clearing of the sign biases */
+/* setup_past_independence( ), and docs/RULES.md's clearing of the sign biases */
 static void setup_past_independence(struct header *h)
 {
     static const int8_t ref_deltas[MAX_REF_FRAMES] = {1, 0, -1, -1};

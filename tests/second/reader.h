@@ -1,4 +1,4 @@
-/* A reader of VP9's uncompressed headers, written from VP9's syntax tables and document 01. */
+/* A reader of VP9's uncompressed headers, written from VP9's syntax tables and docs/RULES.md. */
 #ifndef SECOND_READER_H
 #define SECOND_READER_H
 
@@ -22,7 +22,7 @@ enum { STUDIO_SWING, FULL_SWING };
 enum { CS_UNKNOWN = 0, CS_BT_601 = 1, CS_RGB = 7 };
 enum { EIGHTTAP, EIGHTTAP_SMOOTH, EIGHTTAP_SHARP, BILINEAR, SWITCHABLE };
 
-/* Document 01's numbers, as far as a chunk can give them. */
+/* docs/RULES.md's numbers, as far as a chunk can give them. */
 enum refusal {
     ACCEPTED = 0,
     NO_BYTES = 1,
@@ -33,7 +33,7 @@ enum refusal {
     FIELD_CUT = 6,
 };
 
-/* Whether a chunk lies on document 01's domain for runs; README.md says which reason goes first. */
+/* Whether a chunk lies on docs/RULES.md's domain for runs; README.md says which reason goes first. */
 enum domain {
     ON_DOMAIN = 0,
     NO_FRAMES = 1,

@@ -1,4 +1,4 @@
-/* The eight segment records, as document 01's "Eight segment records" has them. */
+/* The eight segment records, as docs/RULES.md's "Eight segment records" has them. */
 #include "reader.h"
 #include "tables.h"
 

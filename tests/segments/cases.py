@@ -1,4 +1,4 @@
-"""Random cases for the segment records, in the form that read_segments reads."""
+"""Random cases for the segment records, in the form that test_segments reads."""
 
 import os
 import random

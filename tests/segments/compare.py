@@ -3,8 +3,8 @@
 
 Usage: compare.py [--program PROGRAM] [--original ORIGINAL] [--src SRC_DIR] [--cases N] [--show N] [--write FILE]
 
-PROGRAM is the proved program read_segments (default target/bin/read_segments, made by
-`rt check read_segments`), ORIGINAL our driver over the Rust (default
+PROGRAM is the proved program test_segments (default target/bin/test_segments, made by
+`rt check test_segments`), ORIGINAL our driver over the Rust (default
 target/segments/original, made by tests/segments/build). Both get the same cases and
 must print the same records, and those must be the model's (tests/handmade/expect.py,
 from docs/RULES.md's "Eight segment records"). Then PROGRAM is asked for the four scales of each segment
@@ -25,7 +25,7 @@ ROOT = os.path.abspath(os.path.join(HERE, "..", ".."))
 sys.path.insert(0, os.path.join(HERE, "..", "reader"))
 
 from cases import Cases, case_bytes, expect, scales_bytes
-from program import built, command, kit_tools
+from program import answer, built, command, kit_tools
 
 SEED = 5
 
@@ -37,8 +37,8 @@ def line(s):
     return "".join(f" {n}" for n in numbers)
 
 
-def run(words, given):
-    return subprocess.run(words, input=given, stdout=subprocess.PIPE, check=True).stdout.decode().splitlines()
+def lines(printed):
+    return printed.decode().splitlines()
 
 
 def model_lines(cases, tables):
@@ -56,7 +56,7 @@ def scales(record):
 
 def main():
     words = argparse.ArgumentParser(description=__doc__, formatter_class=argparse.RawDescriptionHelpFormatter)
-    words.add_argument("--program", default=built("read_segments"))
+    words.add_argument("--program", default=built("test_segments"))
     words.add_argument("--original", default=os.path.join(ROOT, "target", "segments", "original"))
     words.add_argument("--src", default=os.path.join(ROOT, "..", "shared", "docs", "src"))
     words.add_argument("--cases", type=int, default=20000)
@@ -71,8 +71,9 @@ def main():
         with open(given.write, "wb") as file:
             file.write(data)
 
-    ours = run(command(given.program, kit_tools()), data)
-    answers = {"the Rust": run([given.original], data), "the model": model_lines(cases, expect.read_tables(given.src))}
+    ours = lines(answer(command(given.program, kit_tools()), data))
+    original = subprocess.run([given.original], input=data, stdout=subprocess.PIPE, check=True).stdout
+    answers = {"the Rust": lines(original), "the model": model_lines(cases, expect.read_tables(given.src))}
 
     differences = 0
     for judge, theirs in answers.items():
@@ -81,9 +82,10 @@ def main():
             if a != b:
                 differences += 1
                 if differences <= given.show:
-                    print(f"case {at // 8} segment {at % 8}: read_segments{a}, {judge}{b}")
+                    print(f"case {at // 8} segment {at % 8}: test_segments{a}, {judge}{b}")
 
-    asked = run(command(given.program, kit_tools()), b"".join(scales_bytes(header) for _, header, _ in cases))
+    scales_of = b"".join(scales_bytes(header) for _, header, _ in cases)
+    asked = lines(answer(command(given.program, kit_tools()), scales_of))
     for at, (a, b) in enumerate(zip(asked, map(scales, answers["the Rust"]), strict=True)):
         if a != b:
             differences += 1

@@ -1,4 +1,4 @@
-//! The Rust original's segment records: reads cases in the form of the program read_segments, and prints what that prints.
+//! The Rust original's segment records: reads cases in the form of the program test_segments, and prints what that prints.
 
 // The sources are used as they are; what they don't use isn't ours to mend.
 #![allow(dead_code, unused_imports, clippy::all)]

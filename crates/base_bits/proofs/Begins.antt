@@ -1,4 +1,5 @@
--- What stands at place 0 is what the bits of the slice begin with, so that a reader of a spelling needs neither places nor `reach`.
+-- What stands at place 0 is what the bits of the slice begin with, so that a reader of a spelling needs neither
+-- places nor `reach`.
 -- Assumes nothing.
 use Prim.Native.Nat.{ℕ, zero, suc, _+_, _*_, _%_, _/_, _-_, _^_, _≤_, _<_}
 use mathlib.Core.Path.{_≡_, refl, ap, sym, _∙_}

@@ -1,4 +1,5 @@
--- Readings one after the other, however they are bracketed: how a table's reading is that of the parts that the code reads.
+-- Readings one after the other, however they are bracketed: how a table's reading is that of the parts that the code
+-- reads.
 -- Assumes nothing.
 use Prim.Native.Nat.{ℕ}
 use mathlib.Core.Path.{_≡_, refl}

@@ -1,4 +1,5 @@
--- The laws that callers need of a bit read: its range, that it is its bits one after the other, and that it is one spelling and no other.
+-- The laws that callers need of a bit read: its range, that it is its bits one after the other, and that it is
+-- one spelling and no other.
 -- Assumes nothing.
 use Prim.Native.Nat.{ℕ, _+_, _<_, _^_}
 use mathlib.Core.Path.{_≡_, sym, ap, _∙_}

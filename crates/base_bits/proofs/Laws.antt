@@ -146,7 +146,8 @@ must-reads {x} {n} {m} {u} lt = record {
     over′ s p a f = let am = f .ranged .0 .1 in rw (spelt x s p n a (f .ranged .0 .0) (rw append-nil at (f .stands)), eq-eqb a m am) (omega arith)
 
 module _ {A B : Type 0} {K : B → Type 0} {f : A → List Field} {r : Reader A} {g : B → List Field} {k : A → Reader B} where
-  -- one syntax after another, where the value of the whole has that of the first as its part q; the rest may use that the first is within its widths
+  -- one syntax after another, where the value of the whole has that of the first as its part q; the rest may use that
+  -- the first is within its widths
   pub then-in : (q : B → A) → Reads Any f r → ((a : A) → Within (f a) → Reads (λ b. K b × (q b ≡ a)) g (k a)) → Reads K (λ b. f (q b) ++ g b) (r >>= k)
   then-in q one two = record {
     some = let o = one .some in whole (o .0) (o .2) (after (o .0) (o .2) .some);

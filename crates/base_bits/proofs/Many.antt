@@ -51,7 +51,8 @@ module _ {A S : Type 0} (f : S → A → S) (i j : ℕ) (r : ℕ → Reader A) (
   unfolding many folds
   turn-stop x h = group-stop said (f st) (r i s p) (folds f (suc j) st) (λ v n. bind (many (i + 1) j r s n) (λ vs q. read (v, vs) q)) x h
 
--- a loop that reads n of them and has done i: what is left to read, from p on with the state st, gives what the whole gives
+-- a loop that reads n of them and has done i: what is left to read, from p on with the state st, gives what the whole
+-- gives
 pub record Looped {A S : Type 0} (f : S → A → S) (n : ℕ) (r : ℕ → Reader A) (s : List ℕ) (p₀ : ℕ) (st₀ : S) (i p : ℕ) (st : S) : Type 0 where
   pub within : i ≤ n
   pub same : over (folds f n st₀) (many 0 n r s p₀) ≡ over (folds f (n - i) st) (many i (n - i) r s p)

@@ -10,7 +10,8 @@ use Rattle.base_bits.specs.Syntax.{Field, only, flat, size, Ranged}
 use Rattle.base_bits.specs.declared.Refusal.{Refusal}
 use Rattle.base_bits.specs.declared.Refusal.the-variants.{PastEnd}
 
--- refusals: of the fields fs, the bits of s begin with some that are well spelled, and the next one, after their bits, has F
+-- refusals: of the fields fs, the bits of s begin with some that are well spelled, and the next one, after their
+-- bits, has F
 pub record StopsIn (s : List ℕ) (fs : List Field) (F : List ℕ → Field → Type 0) : Type 0 where
   pub before : List Field
   pub at : Field

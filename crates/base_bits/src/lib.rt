@@ -1,4 +1,5 @@
-// Reads a field of at most 31 bits, high bit first, at any bit of a slice; and the answers that every reader above shares.
+// Reads a field of at most 31 bits, high bit first, at any bit of a slice; and the answers that every reader above
+// shares.
 ghost use Prim.Native.Nat.{_+_, _*_, _≤_};
 ghost use mathlib.Core.Path.{_≡_};
 ghost use lib.ListN.{length};

@@ -72,6 +72,15 @@ then {out} {out₁} {out₂} {at} {at₁} {at₂} {a} {b} v w =
     let t : out₂ ≡ putInto (putInto out at a) (placeAfter out at a) b = cc in
     record { place = p ∙ place-join out at a b; text = t ∙ text-join out at a b }
 
+-- putting nothing changes nothing
+pub nothing : (out : List ℕ) (at : ℕ) → Written out at [] at out
+unfolding placeAfter putInto
+nothing out at = let z : fitting out at [] ≡ 0 = omega arith in record { place = rw z (omega arith); text = rw z (paste-zero out at []) }
+
+-- no byte comes or goes
+pub written-length : {out out₁ t : List ℕ} {at next : ℕ} → Written out at t next out₁ → length out₁ ≡ length out
+written-length {out} {out₁} {t} {at} w = rw (w .text) (same-length out at t)
+
 -- as the code has it: the number of bytes that fit, and the copy
 pub written : {out t out₁ : List ℕ} {at n : ℕ} → n ≡ fitting out at t → out₁ ≡ paste out at t n → Written out at t (at + n) out₁
 unfolding placeAfter putInto

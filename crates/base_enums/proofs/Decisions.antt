@@ -1,4 +1,5 @@
--- Each enum's numbers and variants are inverse to each other, by the one law of Numbered: `try_from` gives a variant exactly to its number.
+-- Each enum's numbers and variants are inverse to each other, by the one law of Numbered: `try_from` gives a variant
+-- exactly to its number.
 -- Assumes nothing.
 use mathlib.Core.Path.{_≡_, refl}
 use Prim.Native.Nat.{ℕ, _<_}

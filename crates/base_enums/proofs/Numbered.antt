@@ -35,7 +35,8 @@ at-least : (k n : ℕ) → Passed k n → k ≤ n
 at-least zero n h = zero-le
 at-least (suc k) n h = omega (arith, at-least k n (h .0), h .1)
 
--- The same of a list by its places: an arm that names the place k, and the last arm, which gives its variant to every number that is left.
+-- The same of a list by its places: an arm that names the place k, and the last arm, which gives its variant to every
+-- number that is left.
 module _ {A : Type 0} where
   pub placed : (l : List A) (n : ℕ) (d x : A) (k : ℕ) → n ≡ k → x ≡ getD l k d → x ≡ getD l n d
   placed l n d x k e h = rw e h

@@ -22,7 +22,8 @@ abbrev pub tried : {A R : Type 0} → (A → R) → R → Answer A → R
 tried ok err (some a) = ok a
 tried ok err none = err
 
--- what makes t a decision over each number: it answers a to a's number and to no other, and refuses exactly what numbers nothing
+-- what makes t a decision over each number: it answers a to a's number and to no other, and refuses exactly
+-- what numbers nothing
 pub record Decides {A R : Type 0} (ok : A → R) (err : R) (f : A → ℕ) (t : ℕ → R) : Type 0 where
   pub accepts : (n : ℕ) (a : A) → (t n ≡ ok a) ↔ (n ≡ f a)
   pub refuses : (n : ℕ) → (t n ≡ err) ↔ ((a : A) → n ≡ f a → ⊥)

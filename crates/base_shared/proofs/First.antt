@@ -1,4 +1,5 @@
--- The first number that has a property: it is among those that are tried or the one past them, it has the property, and none before it has.
+-- The first number that has a property: it is among those that are tried or the one past them, it has the property,
+-- and none before it has.
 -- Assumes nothing.
 use Prim.Native.Nat.{ℕ, zero, suc, _+_, _<_, _≤_}
 use mathlib.Core.Path.{_≡_, refl}

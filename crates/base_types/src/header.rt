@@ -97,7 +97,8 @@ impl Header {
         Self::DEFAULT
     }
 
-    // A header that only names a slot to show. No field that is an enum can be written, so the default isn't changed but said again.
+    // A header that only names a slot to show. No field that is an enum can be written, so the default isn't changed
+    // but said again.
     pub fn showing(profile: Profile, slot: u8) -> Self
         ensures { λ r. ⌜ r ≡ showingHeader profile slot ⌝ }
     {

@@ -1,4 +1,5 @@
--- A chunk of bytes has an index exactly if it ends in the spelling of values in range. They are the only ones, and they say how the frames lie.
+-- A chunk of bytes has an index exactly if it ends in the spelling of values in range. They are the only ones, and
+-- they say how the frames lie.
 -- Assumes nothing.
 use Prim.Native.Nat.{ℕ, zero, suc, _+_, _-_, _*_, _/_, _%_, _^_, _≤_, _<_}
 use mathlib.Core.Path.{_≡_, refl, sym, ap, _∙_}

@@ -1,4 +1,5 @@
--- docs/RULES.md's table, numbers 1 to 3: each is given exactly when its line says so, and a chunk is split exactly if none is.
+-- docs/RULES.md's table, numbers 1 to 3: each is given exactly when its line says so, and a chunk is split exactly if
+-- none is.
 -- Assumes nothing.
 use Prim.Native.Nat.{ℕ}
 use mathlib.Core.Path.{_≡_, refl}

@@ -1,4 +1,5 @@
--- The frames of a chunk that is split: how many there are, and that they tile the room; a chunk that is refused has no places.
+-- The frames of a chunk that is split: how many there are, and that they tile the room; a chunk that is refused has
+-- no places.
 -- Assumes nothing.
 use Prim.Native.Nat.{ℕ, zero, suc, _+_, _<_, _≤_}
 use mathlib.Core.Path.{_≡_, refl, sym, _∙_}

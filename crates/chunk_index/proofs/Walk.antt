@@ -14,7 +14,8 @@ use Rattle.chunk_index.specs.Layout.{Layout, whole, start, frameEnd}
 use Rattle.base_shared.specs.Lists.{first}
 use Rattle.chunk_index.specs.Split.{refusedSplit, filled, firstPast, placed}
 
--- i frames are placed, the next one starts at `at`, and the search for one past the room, from here on, gives what the whole search gives
+-- i frames are placed, the next one starts at `at`, and the search for one past the room, from here on, gives what
+-- the whole search gives
 pub record Walked (l : Layout) (i at : ℕ) (ats sizes : List ℕ) : Type 0 where
   pub within : i ≤ l .frames
   pub room : at ≤ l .room

@@ -8,7 +8,8 @@ use lib.ListN.{length, getD}
 use Rattle.base_shared.specs.Choice.{pick}
 use Rattle.base_little.specs.Little.{little}
 
--- superframe_header(), a byte: superframe_marker f(3), bytes_per_framesize_minus_1 f(2), frames_in_superframe_minus_1 f(3)
+-- superframe_header(), a byte: superframe_marker f(3), bytes_per_framesize_minus_1 f(2), frames_in_superframe_minus_1
+-- f(3)
 abbrev pub marker : ℕ → ℕ
 marker b = b / 32
 

@@ -1,4 +1,5 @@
--- docs/RULES.md's table, numbers 1 to 3, and what holds of a chunk that is split, stated on its bytes. proofs/Table.antt and proofs/Tiles.antt show that `splitOf` is so.
+-- docs/RULES.md's table, numbers 1 to 3, and what holds of a chunk that is split, stated on its bytes.
+-- proofs/Table.antt and proofs/Tiles.antt show that `splitOf` is so.
 -- Assumes nothing.
 use Prim.Native.Nat.{ℕ, _+_, _≤_, _<_}
 use mathlib.Core.Path.{_≡_}
@@ -13,7 +14,8 @@ use Rattle.chunk_index.specs.Layout.{Layout, marker, lastByte, indexByte
 abbrev pub NoBytes : List ℕ → Type 0
 NoBytes s = length s ≡ 0
 
--- last byte starts with bits 110 (marker 6, by proofs/LastByte.antt) and the chunk is shorter than the index it announces
+-- last byte starts with bits 110 (marker 6, by proofs/LastByte.antt) and the chunk is shorter than the index it
+-- announces
 abbrev pub Cut : List ℕ → Type 0
 Cut s = (marker (lastByte s) ≡ 6) × (length s < indexBytes (lastByte s))
 

@@ -83,7 +83,7 @@ fn place_frames(s: &[u8], room: usize, count: usize, first: usize, n: usize) -> 
     }
 }
 
-fn wide(x: u8) -> usize
+fn as_size(x: u8) -> usize
     ensures { λ r. ⌜ r ≡ x ⌝ }
 {
     x as usize
@@ -94,8 +94,8 @@ fn split_by_index(s: &[u8], last: u8) -> Split
     requires { ⌜ (last ≡ lastByte (now s)) × (marker last ≡ 6) ⌝ }
     ensures { λ r. ⌜ r ≡ splitOf (now (s .entry)) ⌝ }
 {
-    let n = wide(last / 8 % 4 + 1);
-    let count = wide(last % 8 + 1);
+    let n = as_size(last / 8 % 4 + 1);
+    let count = as_size(last % 8 + 1);
     let index = 2 + count * n;
     if s.len() < index {
         return refusal(Answer::Short);

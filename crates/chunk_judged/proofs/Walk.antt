@@ -28,7 +28,8 @@ module _ (judge : Judge) where
   abbrev pub verdictAt : List ℕ → ReaderState → ℕ → Verdict
   verdictAt s st i = frameRead judge s (splitOf s) st i .verdict
 
-  -- of the n frames of a chunk i are accepted; the search for a refusal, from here on, gives what the whole search gives
+  -- of the n frames of a chunk i are accepted; the search for a refusal, from here on, gives what the whole search
+  -- gives
   pub record Walked (s : List ℕ) (st : ReaderState) (n : ℕ) (at size : List ℕ) (i : ℕ) (headers : List Header) (state : ReaderState) : Type 0 where
     pub split : splitOf s .answer ≡ Frames n
     pub few : n ≤ 8

@@ -1,4 +1,5 @@
--- The frames of a chunk, each under the state that the frames before it left: docs/RULES.md, "Numbers a caller can get back". Who judges a frame is left open.
+-- The frames of a chunk, each under the state that the frames before it left: docs/RULES.md, "Numbers a caller can
+-- get back". Who judges a frame is left open.
 -- Assumes nothing.
 use Prim.Native.Nat.{ℕ, zero, suc, _+_}
 use mathlib.Core.List.{List}

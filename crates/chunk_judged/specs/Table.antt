@@ -1,4 +1,5 @@
--- docs/RULES.md's table for a chunk, stated on its bytes and the state before it, of a judge whose answers to a frame have been said: it accepts where
+-- docs/RULES.md's table for a chunk, stated on its bytes and the state before it, of a judge whose answers to a frame
+-- have been said: it accepts where
 -- `Accepts` holds and refuses with e where `Refuses` does. proofs/Table.antt shows that `judgedChunk` is so.
 -- Assumes nothing.
 use Prim.Native.Nat.{ℕ, _<_}

@@ -1,4 +1,5 @@
--- What is answered to a chunk that is accepted: its frames tile the room from 0, and each header is that of the values that fit, under the state that the frames before it left.
+-- What is answered to a chunk that is accepted: its frames tile the room from 0, and each header is that of the
+-- values that fit, under the state that the frames before it left.
 -- Assumes nothing.
 use Prim.Native.Nat.{ℕ, _+_, _<_, _≤_}
 use mathlib.Core.Path.{_≡_, ap, _∙_}

@@ -1,4 +1,5 @@
--- docs/RULES.md's table for a chunk, by the grammar: a frame is accepted where its header is spelled, and refused where it is at fault, under the sizes
+-- docs/RULES.md's table for a chunk, by the grammar: a frame is accepted where its header is spelled, and refused
+-- where it is at fault, under the sizes
 -- that the frames before it left. proofs/Table.antt shows that `chunkOf` is so.
 -- Assumes nothing.
 use Prim.Native.Nat.{ℕ}

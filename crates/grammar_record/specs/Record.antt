@@ -38,7 +38,8 @@ isIndependent v = isIntra v || flag (v .error-resilient-mode)
 abbrev pub lengthOf : ℕ → ℕ
 lengthOf n = (n + 7) / 8
 
--- a frame's record, from its profile and the length of its header in bytes: a value that isn't there is 0, as in the default header, whose filter is the eight-tap one.
+-- a frame's record, from its profile and the length of its header in bytes: a value that isn't there is 0, as in the
+-- default header, whose filter is the eight-tap one.
 -- Kept from the source, an independent frame has no sign bias
 unfoldable pub frameOf : ReaderState → ℕ → FrameValues → ℕ → Header
 frameOf st profile v bytes =
@@ -85,7 +86,8 @@ frameOf st profile v bytes =
       «uncompressed_header_size_in_bytes» = bytes;
     }
 
--- show-existing has the profile and the slot, and else the default header; a frame's length is its spelling's, in whole bytes
+-- show-existing has the profile and the slot, and else the default header; a frame's length is its spelling's, in
+-- whole bytes
 unfoldable pub headerOf : ReaderState → HeaderValues → Header
 headerOf st v =
     let profile = headerProfile v in

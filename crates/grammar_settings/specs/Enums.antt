@@ -1,4 +1,5 @@
--- What single values of a header stand for: depth, range and subsampling of color_config() (VP9 6.2.2), and the filter of read_interpolation_filter() (6.2.7).
+-- What single values of a header stand for: depth, range and subsampling of color_config() (VP9 6.2.2), and the
+-- filter of read_interpolation_filter() (6.2.7).
 -- Assumes nothing.
 use Prim.Native.Nat.{ℕ}
 use mathlib.Core.Bool.{Bool, true, false}

@@ -1,4 +1,5 @@
--- The settings that a header's values leave, from the remembered ones: what isn't coded keeps its value. A frame that is intra or error resilient is independent of
+-- The settings that a header's values leave, from the remembered ones: what isn't coded keeps its value. A frame that
+-- is intra or error resilient is independent of
 -- earlier ones: setup_past_independence() (VP9 7.2) resets the deltas and the features that it starts from.
 -- Assumes nothing.
 use Prim.Native.Nat.{ℕ, zero, suc, _+_}

@@ -1,4 +1,5 @@
--- The laws of the tables: each reading reads what its spelling spells; with the values that are all 0, and how many bits each table can have.
+-- The laws of the tables: each reading reads what its spelling spells; with the values that are all 0, and how many
+-- bits each table can have.
 -- Assumes nothing.
 use Prim.Native.Nat.{ℕ, zero, suc, _+_, _*_, _≤_, _<_, pred}
 use Prim.Native.String.{String}

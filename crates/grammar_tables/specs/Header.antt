@@ -1,4 +1,5 @@
--- uncompressed_header() (VP9 6.2): the field values of a header, their spelling under the remembered sizes, and what it is for a frame to begin with it.
+-- uncompressed_header() (VP9 6.2): the field values of a header, their spelling under the remembered sizes, and what
+-- it is for a frame to begin with it.
 -- Nothing here knows of a reader.
 -- Assumes nothing.
 use Prim.Native.Nat.{ℕ, _+_, _*_}
@@ -116,7 +117,8 @@ headerFields slots v =
     ∷ fldIf (showsExisting v) (the "frame_to_show_map_idx") 3 (v .frame-to-show-map-idx)
     ∷ optional (not (showsExisting v)) (frameFields slots (headerProfile v) (v .frame))
 
--- under the remembered sizes, the frame's bits begin with the spelling of the values v, each in range: one that isn't there has no bits, and is 0
+-- under the remembered sizes, the frame's bits begin with the spelling of the values v, each in range: one that isn't
+-- there has no bits, and is 0
 pub record Spelled (slots : List FrameSize) (s : List ℕ) (v : HeaderValues) : Type 0 where
   pub ranged : Ranged (headerFields slots v)
   pub begins : Begins s (flat (headerFields slots v))

@@ -1,4 +1,5 @@
--- Readings of the tables, which the code is proved equal to part by part. Nothing here needs to be believed: the laws in proofs/ tie each to its spelling.
+-- Readings of the tables, which the code is proved equal to part by part. Nothing here needs to be believed: the laws
+-- in proofs/ tie each to its spelling.
 -- Of a table that may be absent, the values that are all 0.
 -- Assumes nothing.
 use Prim.Native.Nat.{ℕ, zero, suc, _+_, _*_}

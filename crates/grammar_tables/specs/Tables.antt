@@ -1,4 +1,5 @@
--- The tables that uncompressed_header() calls, in VP9's order (6.2.2 to 6.2.14): of each, its field values by VP9's names, and how they are spelled.
+-- The tables that uncompressed_header() calls, in VP9's order (6.2.2 to 6.2.14): of each, its field values by VP9's
+-- names, and how they are spelled.
 -- Assumes nothing.
 use Prim.Native.Nat.{ℕ, zero, suc, _+_, _*_, _-_, _/_, _%_, _^_}
 use Prim.Native.String.{String}
@@ -12,7 +13,8 @@ use Rattle.base_bits.specs.Syntax.{Field, fld, flag, fldIf, optional, _then_}
 use Rattle.base_bits.specs.Many.{Times, manyFields}
 use Rattle.base_shared.specs.Lists.{first}
 
--- color_config() (6.2.2), for a profile: profiles 2 and 3 code the depth, and 1 and 3 the subsampling, unless the colour space is RGB, which has no range either
+-- color_config() (6.2.2), for a profile: profiles 2 and 3 code the depth, and 1 and 3 the subsampling, unless the
+-- colour space is RGB, which has no range either
 pub record ColorValues : Type 0 where
   pub ten-or-twelve-bit : ℕ
   pub color-space : ℕ
@@ -92,7 +94,8 @@ foundFields v =
 unfoldable pub foundAt : FoundValues → ℕ
 foundAt v = pick (eqb (v .last) 0) (pick (eqb (v .golden) 0) (pick (eqb (v .altref) 0) 3 2) 1) 0
 
--- a delta behind a flag, as read_delta_q() (6.2.10) and loop_filter_params() have it: the flag x and, where it is 1, the magnitude y of n bits and the sign z
+-- a delta behind a flag, as read_delta_q() (6.2.10) and loop_filter_params() have it: the flag x and, where it is 1,
+-- the magnitude y of n bits and the sign z
 pub record DeltaValues : Type 0 where
   pub coded : ℕ
   pub magnitude : ℕ
@@ -151,7 +154,8 @@ probFields x y v = fld x 1 (v .coded) ∷ fldIf (flag (v .coded)) y 8 (v .prob) 
 unfoldable pub probsFields : String → String → (n : ℕ) → Times n ProbValues → List Field
 probsFields x y n = manyFields (λ i. probFields (item x i) (item y i)) 0 n
 
--- feature j of segment i in segmentation_params() (6.2.11); segmentation_feature_bits and segmentation_feature_signed of quantizer, filter level, reference and skip
+-- feature j of segment i in segmentation_params() (6.2.11); segmentation_feature_bits and segmentation_feature_signed
+-- of quantizer, filter level, reference and skip
 pub record FeatureValues : Type 0 where
   pub feature-enabled : ℕ
   pub feature-value : ℕ
@@ -198,13 +202,15 @@ segmentationFields v =
     ∷ fldIf (flag (v .update-data)) (the "segmentation_abs_or_delta_update") 1 (v .abs-or-delta-update)
     ∷ optional (flag (v .update-data)) (featuresFields (v .features))
 
--- a run of k bits 1 in a row, the first of them number i of the name x, which a 0 ends unless there are n; past n of them there are no bits, and so k is 0
+-- a run of k bits 1 in a row, the first of them number i of the name x, which a 0 ends unless there are n; past n of
+-- them there are no bits, and so k is 0
 unfoldable pub runFields : String → ℕ → ℕ → ℕ → List Field
 runFields x i zero k = fld (item x i) 0 k ∷ []
 runFields x i (suc n) zero = fld (item x i) 1 0 ∷ []
 runFields x i (suc n) (suc k) = fld (item x i) 1 1 ∷ runFields x (i + 1) n k
 
--- calc_min_log2_tile_cols() and calc_max_log2_tile_cols() (6.2.14), for a width in superblocks of 64: the first k with 64 x 2^k >= w, and the first with w / 2^(k + 1) < 4.
+-- calc_min_log2_tile_cols() and calc_max_log2_tile_cols() (6.2.14), for a width in superblocks of 64: the first k
+-- with 64 x 2^k >= w, and the first with w / 2^(k + 1) < 4.
 -- A width is below 2^32, so that 32 numbers are enough to try
 abbrev pub superblocks : ℕ → ℕ
 superblocks width = (width + 63) / 64

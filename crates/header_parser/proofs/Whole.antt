@@ -1,4 +1,5 @@
--- The answer to a frame, read part by part: the parts make the record and the state of the values, and the place past them is the spelling's length.
+-- The answer to a frame, read part by part: the parts make the record and the state of the values, and the place past
+-- them is the spelling's length.
 -- Assumes nothing.
 use Prim.Native.Nat.{ℕ}
 use mathlib.Core.Path.{_≡_, refl, sym, _∙_}

@@ -1,4 +1,5 @@
--- What the reader answers to a frame: the record and the state of the values that fit, or the refusal and nothing changed.
+-- What the reader answers to a frame: the record and the state of the values that fit, or the refusal and nothing
+-- changed.
 -- Assumes nothing.
 use Prim.Native.Nat.{ℕ}
 use mathlib.Core.List.{List}

@@ -1,4 +1,5 @@
--- Demand 3, of the answer to a frame's bytes s under a state: what is spelled there is accepted, and what is at fault is refused. No reader is named here.
+-- Demand 3, of the answer to a frame's bytes s under a state: what is spelled there is accepted, and what is at fault
+-- is refused. No reader is named here.
 -- Assumes nothing.
 use Prim.Native.Nat.{ℕ}
 use mathlib.Core.Path.{_≡_}
@@ -19,7 +20,8 @@ use Rattle.header_parser.specs.Answer.{accepted, refusedWith}
 abbrev pub IsSpelled : List FrameSize → List ℕ → Type 0
 IsSpelled slots s = (v : HeaderValues) × Spelled slots s v
 
--- the fields are at fault: 4 and 5 for a mark with another number, 6 for a field that runs past the last bit, the fields before it being well spelled
+-- the fields are at fault: 4 and 5 for a mark with another number, 6 for a field that runs past the last bit, the
+-- fields before it being well spelled
 abbrev pub StopsFor : Refusal → List ℕ → List Field → Type 0
 StopsFor FrameMarker s fs = StopsIn s fs (OtherNumber s frameMarker)
 StopsFor SyncCode s fs = StopsIn s fs (OtherNumber s syncCode)

@@ -1,4 +1,5 @@
--- What stands next at a place of a whole file, by ivf's `recordOf`, and what may be said while a part of the file is at hand. proofs/Whole.antt shows that `nextRecord` says so.
+-- What stands next at a place of a whole file, by ivf's `recordOf`, and what may be said while a part of the file is
+-- at hand. proofs/Whole.antt shows that `nextRecord` says so.
 -- Assumes nothing.
 use Prim.Native.Nat.{ℕ}
 use mathlib.Core.Path.{_≡_}

@@ -1,4 +1,5 @@
--- A caller that lends only a part of the file: the header is in its first 32 bytes, and a record's length in the record's first 12.
+-- A caller that lends only a part of the file: the header is in its first 32 bytes, and a record's length in
+-- the record's first 12.
 -- Assumes nothing.
 use Prim.Native.Nat.{ℕ, zero, suc, _+_, _*_, _<_, _≤_}
 use mathlib.Core.Path.{_≡_, refl, sym}

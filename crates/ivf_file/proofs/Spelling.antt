@@ -1,4 +1,5 @@
--- A file begins with a header exactly if it begins with the spelling of values in range, and a record stands at a place exactly if its spelling does.
+-- A file begins with a header exactly if it begins with the spelling of values in range, and a record stands at a
+-- place exactly if its spelling does.
 -- Assumes nothing.
 use Prim.Native.Nat.{ℕ, _+_, _^_, _<_, _≤_}
 use mathlib.Core.Path.{_≡_, refl, sym, ap, _∙_}

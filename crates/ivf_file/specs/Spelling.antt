@@ -15,7 +15,8 @@ pub record FileValues : Type 0 where
   pub header : IvfHeader
   pub unused : ℕ
 
--- the four bytes DKIF, version 2, header size 2, VP90, width 2, height 2, rate 4, scale 4, count 4, unused 4; numbers low byte first
+-- the four bytes DKIF, version 2, header size 2, VP90, width 2, height 2, rate 4, scale 4, count 4, unused 4; numbers
+-- low byte first
 unfoldable pub spellHeader : FileValues → List ℕ
 spellHeader v =
     dkif

@@ -1,4 +1,5 @@
--- docs/RULES.md's table, numbers 7 and 8, stated on a file's bytes. proofs/Table.antt shows that `fileOf` and `recordOf` are so.
+-- docs/RULES.md's table, numbers 7 and 8, stated on a file's bytes. proofs/Table.antt shows that `fileOf` and
+-- `recordOf` are so.
 -- Assumes nothing.
 use Prim.Native.Nat.{ℕ, _+_, _≤_, _<_}
 use mathlib.Core.Path.{_≡_}

@@ -1,4 +1,5 @@
--- Where a reader's place goes: past the file's end it gives 8 and stays, inside the file it stays inside, and each record moves it on.
+-- Where a reader's place goes: past the file's end it gives 8 and stays, inside the file it stays inside, and
+-- each record moves it on.
 -- Assumes nothing.
 use Prim.Native.Nat.{ℕ, _+_, _<_, _≤_}
 use mathlib.Core.Path.{_≡_}

@@ -1,5 +1,7 @@
-// A reader of a recording's records: it keeps the lent file and its place together. The checker covers no function over a struct that holds a reference,
-// so each is proved by hand and thin; the work is done by `ivf_file::read_record`, which takes a plain slice and a place.
+// A reader of a recording's records: it keeps the lent file and its place together. The checker covers no function
+// over a struct that holds a reference,
+// so each is proved by hand and thin; the work is done by `ivf_file::read_record`, which takes a plain slice and a
+// place.
 ghost use mathlib.Core.Path.{_≡_};
 ghost use Rattle.ivf_file.specs.Record.{recordOf};
 ghost use Rattle.ivf_reader.specs.Reader.{opened, readerPlaceAfter, movedOn};

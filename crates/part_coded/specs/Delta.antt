@@ -1,4 +1,5 @@
--- A delta behind a flag: read_delta_q() (VP9 6.2.10), and each delta of loop_filter_params() (6.2.8). The tables give its fields' names and its width.
+-- A delta behind a flag: read_delta_q() (VP9 6.2.10), and each delta of loop_filter_params() (6.2.8). The tables give
+-- its fields' names and its width.
 -- Assumes nothing.
 use Prim.Native.Nat.{ℕ}
 use mathlib.Core.Path.{_≡_}

@@ -1,4 +1,5 @@
--- loop_filter_params() is read as its parts are that the code reads: level, sharpness, and the deltas where they are enabled.
+-- loop_filter_params() is read as its parts are that the code reads: level, sharpness, and the deltas where they are
+-- enabled.
 -- Assumes nothing.
 use Prim.Native.Nat.{ℕ}
 use mathlib.Core.Path.{_≡_}

@@ -1,4 +1,5 @@
--- The second half of color_config() (VP9 6.2.2): range, subsampling and the reserved bit that ends either of its branches.
+-- The second half of color_config() (VP9 6.2.2): range, subsampling and the reserved bit that ends either of its
+-- branches.
 -- Assumes nothing.
 use Prim.Native.Nat.{ℕ}
 use mathlib.Core.Bool.{Bool, not, _&&_}

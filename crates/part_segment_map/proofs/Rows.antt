@@ -45,7 +45,8 @@ unfolding folds
 grown-each f zero l v = sym (append-nil l)
 grown-each f (suc n) l v = grown-each f n (grown f l (v .0)) (v .1) ∙ append-assoc l (f (v .0) ∷ []) (eachOf f n (v .1))
 
--- of the row l, the first i places hold what f makes of the values read so far, n in all being to be read, and the others are those of l₀
+-- of the row l, the first i places hold what f makes of the values read so far, n in all being to be read, and the
+-- others are those of l₀
 pub record Filled {A B : Type 0} (f : A → B) (n : ℕ) (r : ℕ → Reader A) (s : List ℕ) (p₀ : ℕ) (l₀ : List B) (i p : ℕ) (l : List B) : Type 0 where
   pub front : Looped (grown f) n r s p₀ [] i p (take i l)
   pub rest : drop i l ≡ drop i l₀

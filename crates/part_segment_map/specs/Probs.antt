@@ -23,7 +23,8 @@ probsOf n v = eachOf probOf n v ++ drop n (replicate 7 255)
 abbrev pub viewProbs : ProbsRead → Got (List ℕ)
 viewProbs r = viewNext (r .probs) (r .next)
 
--- what is answered, under whatever names the fields have: for n probabilities, and for those that are there only if b holds
+-- what is answered, under whatever names the fields have: for n probabilities, and for those that are there only if b
+-- holds
 abbrev pub ProbsAre : List ℕ → ℕ → ℕ → ProbsRead → Type 0
 ProbsAre s p n r = (x y : String) → viewProbs r ≡ over (probsOf n) (readProbs x y n s p)
 

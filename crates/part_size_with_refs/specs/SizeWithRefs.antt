@@ -1,4 +1,5 @@
--- frame_size_with_refs() (VP9 6.2.5): the size of the first reference whose found_ref is 1, or one of its own; and the render size.
+-- frame_size_with_refs() (VP9 6.2.5): the size of the first reference whose found_ref is 1, or one of its own; and
+-- the render size.
 -- Assumes nothing.
 use Prim.Native.Nat.{ℕ, _<_}
 use mathlib.Core.Path.{_≡_}

@@ -1,4 +1,5 @@
--- Numbers kept in a width and read back: what a call gave, a byte and a signed number of 16 bits as an i32, and their sum.
+-- Numbers kept in a width and read back: what a call gave, a byte and a signed number of 16 bits as an i32, and their
+-- sum.
 use mathlib.Core.Path.{_≡_, _∙_}
 use mathlib.Core.Bool.{Bool, true, false, cond}
 use Prim.Native.Nat.{ℕ, suc, _+_, _-_, _^_, _<_, _≤_}

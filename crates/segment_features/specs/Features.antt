@@ -8,7 +8,8 @@ use Rattle.base_settings.specs.declared.segmentation.SegmentationParams.{Segmen
 use Rattle.base_settings.specs.SegmentationParams.{featureIn}
 use Rattle.segment_features.specs.declared.Features.{Features}
 
--- by the flags enabled and abs_or_delta_update and the rows of bits and data; as in the source, reference and skip report the enabled bits even where segmentation is off
+-- by the flags enabled and abs_or_delta_update and the rows of bits and data; as in the source, reference and skip
+-- report the enabled bits even where segmentation is off
 unfoldable pub featuresIn : Bool → Bool → List Bool → List ℤ → ℕ → Features
 featuresIn enabled absolute on values i =
     record {

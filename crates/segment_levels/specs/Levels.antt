@@ -1,4 +1,5 @@
--- The filter levels of a segment: VP9's section 8.8.1. Kept from the source: n goes by the frame's level, where VP9 goes by the segment's.
+-- The filter levels of a segment: VP9's section 8.8.1. Kept from the source: n goes by the frame's level, where VP9
+-- goes by the segment's.
 use Prim.Native.Nat.{ℕ, _/_, _^_}
 use mathlib.Core.Bool.{Bool}
 use mathlib.Core.List.{List, [], _∷_}

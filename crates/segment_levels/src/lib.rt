@@ -94,7 +94,8 @@ fn keep(lf: LoopFilterParams, frame: Grid, old: Grid) -> Grid
     }
 }
 
-// The levels of a segment, by its level feature with data d. The frame's own levels serve where the feature isn't active.
+// The levels of a segment, by its level feature with data d. The frame's own levels serve where the feature isn't
+// active.
 pub fn levels_of(
     lf: LoopFilterParams,
     frame: Grid,

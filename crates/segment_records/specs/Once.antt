@@ -1,4 +1,5 @@
--- The same records by what is made once for a frame: its tables, its own scales and its own levels. Private functions cite these.
+-- The same records by what is made once for a frame: its tables, its own scales and its own levels. Private functions
+-- cite these.
 use Prim.Native.Nat.{ℕ}
 use mathlib.Core.List.{List}
 use lib.IntN.{ℤ}

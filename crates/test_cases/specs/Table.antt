@@ -1,4 +1,5 @@
--- docs/RULES.md, "Numbers on each side of the line": the cases marked P, in its order, each a statement about the definitions.
+-- docs/RULES.md, "Numbers on each side of the line": the cases marked P, in its order, each a statement about the
+-- definitions.
 -- Assumes nothing.
 use Prim.Native.Nat.{ℕ, zero, suc, _+_}
 use mathlib.Core.Path.{_≡_}
@@ -22,7 +23,8 @@ use Rattle.chunk_parser.specs.Answer.{chunkOf}
 use Rattle.segment_features.specs.Features.{featuresOf}
 use Rattle.segment_records.specs.Segmentation.{gridAfter}
 
--- what is said of a frame: its place, and of its header the kind, the sizes, the quantizer's base, the refresh bits and the length
+-- what is said of a frame: its place, and of its header the kind, the sizes, the quantizer's base, the refresh bits
+-- and the length
 pub record Frame : Type 0 where
   pub at : ℕ
   pub size : ℕ

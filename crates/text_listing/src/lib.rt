@@ -1,4 +1,5 @@
-// The lines of a listing besides those of frames. Each is put whole, or not at all where fewer than `text_line::MAX_LINE` bytes are left.
+// The lines of a listing besides those of frames. Each is put whole, or not at all where fewer than
+// `text_line::MAX_LINE` bytes are left.
 ghost use Rattle.text_line.specs.Line.{Line};
 ghost use Rattle.text_listing.specs.Lines.{columnLine, refusedLine, fileRefusedLine, lastLine};
 

@@ -9,7 +9,8 @@ use lib.Dec.{ltb}
 abbrev pub digit : ℕ → ℕ
 digit d = 48 + d
 
--- in decimal, with at most f digits before the last: what all but the last digit say, if that is anything, and the last digit
+-- in decimal, with at most f digits before the last: what all but the last digit say, if that is anything, and the
+-- last digit
 unfoldable pub numeralOf : ℕ → ℕ → List ℕ
 numeralOf zero n = digit (n % 10) ∷ []
 numeralOf (suc f) n = cond (ltb n 10) [] (numeralOf f (n / 10)) ++ (digit (n % 10) ∷ [])

@@ -5,23 +5,23 @@ use Rattle.chunk_index.proofs.Cases.{announced-cut, announced-indexed, 
 use Rattle.chunk_index.proofs.split_by_index.Statement.{statement}
 use Rattle.chunk_index.proofs.split_by_index.Tie as tie
 
-add-wide : tie.Need-add-wide
-add-wide c = search needs
+add-as-size : tie.Need-add-as-size
+add-as-size c = search needs
 
-wide-requires : tie.Need-wide-requires
-wide-requires c κs = search needs
+as-size-requires : tie.Need-as-size-requires
+as-size-requires c κs = search needs
 
-add-wide-2 : tie.Need-add-wide-2
-add-wide-2 c = search needs
+add-as-size-2 : tie.Need-add-as-size-2
+add-as-size-2 c = search needs
 
-wide-requires-2 : tie.Need-wide-requires-2
-wide-requires-2 c κs = search needs
+as-size-requires-2 : tie.Need-as-size-requires-2
+as-size-requires-2 c κs = search needs
 
 mul-index : tie.Need-mul-index
-mul-index c = omega (arith, sizes-small (c .before .before .before .args .last) (c .wide2 .ensures) (c .before .wide .ensures))
+mul-index c = omega (arith, sizes-small (c .before .before .before .args .last) (c .as-size2 .ensures) (c .before .as-size .ensures))
 
 add-index : tie.Need-add-index
-add-index c = omega (arith, sizes-small (c .before .before .before .args .last) (c .wide2 .ensures) (c .before .wide .ensures))
+add-index c = omega (arith, sizes-small (c .before .before .before .args .last) (c .as-size2 .ensures) (c .before .as-size .ensures))
 
 refusal-requires : tie.Need-refusal-requires
 refusal-requires c κs = search needs
@@ -54,10 +54,10 @@ pub split-by-index-spec : {M : Type 1} → statement M
 split-by-index-spec =
     tie.close
     (tie.spec
-    add-wide
-    wide-requires
-    add-wide-2
-    wide-requires-2
+    add-as-size
+    as-size-requires
+    add-as-size-2
+    as-size-requires-2
     mul-index
     add-index
     refusal-requires

@@ -1,4 +1,4 @@
--- `print_tables::print_scale` is safe: a scale that is not negative is a u64.
+-- `test_tables::print_scale` is safe: a scale that is not negative is a u64.
 use mathlib.Core.Path.{_≡_}
 use mathlib.Core.Bool.{false}
 use Prim.Native.Nat.{ℕ}

@@ -1,4 +1,4 @@
--- `print_tables::print_table` is safe and ends: the index runs from 0 to 256.
+-- `test_tables::print_table` is safe and ends: the index runs from 0 to 256.
 use Prim.Native.Nat.{_≤_, _-_}
 use borrow.Author.Needs.{needs}
 use Rattle.test_tables.proofs.print_table.Statement.{statement}

@@ -1,6 +1,9 @@
--- `next_record` meets its contract: a walk of its MIR, by hand. The borrow is opened, which gives the reader's cell and what the reader owns; `read_record` is called on the file and the place, and `place_after` on its answer;
--- the new place is stored in the cell, and the borrow is closed at the reader with that place. All that the proof knows of the two callees is that each meets its contract.
--- The reader is Copy: what it owns is had twice, one copy goes to `read_record`, and of the other the file's part is kept, and the facts of the place are made anew: `again`.
+-- `next_record` meets its contract: a walk of its MIR, by hand. The borrow is opened, which gives the reader's cell
+-- and what the reader owns; `read_record` is called on the file and the place, and `place_after` on its answer;
+-- the new place is stored in the cell, and the borrow is closed at the reader with that place. All that the proof
+-- knows of the two callees is that each meets its contract.
+-- The reader is Copy: what it owns is had twice, one copy goes to `read_record`, and of the other the file's part is
+-- kept, and the facts of the place are made anew: `again`.
 -- Assumes nothing.
 use mathlib.Core.Path.{_≡_, refl, ap, _∙_}
 use Prim.Native.Nat.{ℕ, _<_, _^_}
@@ -176,7 +179,8 @@ module _ {M : Type 1} (𝓤 : URA M) (H : Heap 𝓤) (A : Atoms 𝓤) (W : Given
         opens ! tt R {h = h} b o (λ vs. spelt ! R (Is R) (shows 𝓤 H A R) (LL.vals D L) (LL.tells D L) fullShare h vs b o $
         use1 W (‵ (fat fullShare (T′.mir erased) b o mach)) (W .laws .raw-at fullShare (T′.mir erased) b o mach) $
         move ! (1 ∷ []) $ peeks ! R (Is R) (shows 𝓤 H A R) h (mach ∷ []) (λ g. move ! (1 ∷ 0 ∷ []) $
-        -- [the reader's cell; what it owns; the open borrow; obs; auth; 'a's token; …; _5; …; _4; …; _3; …; _2; …; _1; …; room for _0; …]
+        -- [the reader's cell; what it owns; the open borrow; obs; auth; 'a's token; …; _5; …; _4; …; _3; …; _2; …;
+        -- _1; …; room for _0; …]
         assigns ! (of-opd ! (load ! (from ! (hop ! (look ! 15 refl) (fld ! refl (stop !)))) (look-in ! 0 (sub ! 1 refl (whole !))))) (from ! (stop !)) (init ! 13 refl (tt, record { fits = place-fits g })) $
         assigns ! (of-opd ! (load ! (from ! (hop ! (look ! 15 refl) (fld ! refl (stop !)))) (look-in ! 0 (sub ! 0 refl (whole !))))) (from ! (stop !)) (init ! 7 refl (tt, LL.lawful D L 𝓤 H A W .typed h _ g .0 .1 .0)) $
         -- `read_record` gets one copy of what the reader owns, and 'a's token
@@ -185,7 +189,8 @@ module _ {M : Type 1} (𝓤 : URA M) (H : Heap 𝓤) (A : Atoms 𝓤) (W : Given
         calls-at ! fm (ReadRecord 𝓤 H A at-mem run) known-read to-read (and-then ! (load ! (from ! (stop !)) (look ! 7 refl)) (and-then ! (load ! (from ! (stop !)) (look ! 13 refl)) (no-more !))) (λ u.
         use1 W (later (some (λ (r : RecordRead). ((‵ (flft κ′ q′) ⊛ ‵ ftrue) ⊛ ‵ (S.the-row .own r (u ∷ []))) ⊛ raw (ensured 𝓤 H A read-record.ended (read-record.clauses 𝓤 H A at-mem run) (κ′, tt) (h .file, (h .place, tt)) tt r)))) (id⊢ 𝓤 _) $ await ! tt $ pick ! (λ r.
         split ! $ move ! (1 ∷ []) $ use1 W (raw (fact 𝓤 (r ≡ found))) (read-said r) $ heard ! (r ≡ found) (λ e. split ! $ move ! (1 ∷ []) $
-        -- [the answer; 'a's token; what the reader owns; its cell; the open borrow; obs; auth; …; _5; …; room for _4; …; room for _3; …; _2; …; _1; …; room for _0; …]
+        -- [the answer; 'a's token; what the reader owns; its cell; the open borrow; obs; auth; …; _5; …; room for _4;
+        -- …; room for _3; …; _2; …; _1; …; room for _0; …]
         peeks ! S.the-row (Is S.the-row) (shows 𝓤 H A S.the-row) r (u ∷ []) (λ is.
         land ! (from ! (stop !)) (init ! 12 refl (EL.lawful S.the-type S′.the-laws 𝓤 H A W tt .typed r _ is .0)) $
         -- `place_after` gets a copy of the answer
@@ -194,7 +199,8 @@ module _ {M : Type 1} (𝓤 : URA M) (H : Heap 𝓤) (A : Atoms 𝓤) (W : Given
         calls-at ! fm (PlaceAfter 𝓤 H A at-mem run) known-place (to-place r u) (and-then ! (load ! (from ! (stop !)) (look ! 13 refl)) (and-then ! (load ! (from ! (stop !)) (look ! 15 refl)) (no-more !))) (λ w.
         use1 W (later (some (λ (n : ℕ). (‵ ftrue ⊛ ‵ (usize .own n (w ∷ []))) ⊛ raw (ensured 𝓤 H A place-after.ended (place-after.clauses 𝓤 H A at-mem run) tt (r, (h .place, tt)) tt n)))) (id⊢ 𝓤 _) $ await ! tt $ pick ! (λ n.
         split ! $ move ! (1 ∷ []) $ use1 W (raw (fact 𝓤 (n ≡ readerPlaceAfter r (h .place)))) (place-said r n) $ heard ! (n ≡ readerPlaceAfter r (h .place)) (λ p. split ! $ move ! (1 ∷ []) $
-        -- [the new place; …; the answer; 'a's token; what the reader owns; its cell; the open borrow; obs; auth; …; _5; …; room for _4; …; _3; …; _2; …; _1; …; room for _0; …]
+        -- [the new place; …; the answer; 'a's token; what the reader owns; its cell; the open borrow; obs; auth; …;
+        -- _5; …; room for _4; …; _3; …; _2; …; _1; …; room for _0; …]
         peeks ! usize (Is usize) (shows 𝓤 H A usize) n (w ∷ []) (λ at.
         land ! (from ! (stop !)) (init ! 12 refl (uint-lawful 𝓤 H A W w64 .typed n _ at .0)) $ rewrite ! 12 (λ (x : Val). ‵ (fat fullShare (tyInt w64) l₄ 0 x)) (ap only (at .0)) refl $
         assigns ! (of-opd ! (load ! (from ! (stop !)) (look ! 12 refl))) (from ! (hop ! (look ! 18 refl) (fld ! refl (stop !)))) (store-in ! 5 (sub ! 1 refl (whole !)) (tt, record { fits = at .1 })) $
@@ -203,7 +209,8 @@ module _ {M : Type 1} (𝓤 : URA M) (H : Heap 𝓤) (A : Atoms 𝓤) (W : Given
         move ! (4 ∷ []) $ use1 W (‵ (R .own (placed n) (T′.lowered (placed n) ∷ []))) (again n (at .1)) $
         move ! (5 ∷ []) $ use1 W (‵ (cellAt fullShare (R .mir) (T′.lowered (placed n) ∷ []) b o)) (W .laws .at-raw fullShare (T′.mir erased) b o (T′.lowered (placed n))) $
         move ! (0 ∷ 1 ∷ 6 ∷ 7 ∷ 8 ∷ []) $ closes ! tt R (placed n) (T′.lowered (placed n) ∷ []) b o $
-        -- [obs; the borrow; its token; the new place; …; the answer; 'a's token; …; _5; …; _4; …; _3; …; _2; …; _1; …; _0; …]
+        -- [obs; the borrow; its token; the new place; …; the answer; 'a's token; …; _5; …; _4; …; _3; …; _2; …; _1;
+        -- …; _0; …]
         returns ! (look ! 18 refl) $ forget ! 8 refl $ forget ! 10 refl $ forget ! 12 refl $ forget ! 14 refl $ forget ! 16 refl $ forget ! 18 refl $
         move ! (18 ∷ 19 ∷ []) $ free1 ! $ move ! (16 ∷ 17 ∷ []) $ free1 ! $ move ! (14 ∷ 15 ∷ []) $ free1 ! $ move ! (12 ∷ 13 ∷ []) $ free1 ! $ move ! (10 ∷ 11 ∷ []) $ free1 ! $ move ! (8 ∷ 9 ∷ []) $ free1 ! $ free0 ! $
         keep ! (0 ∷ 1 ∷ 2 ∷ 6 ∷ 5 ∷ []) $ by ! (exits r u n e p)))))))))))))))))

@@ -1,5 +1,7 @@
--- `open` meets its contract: a walk of its MIR, by hand. A `RecordReader` is made of the file passed and 32, in the result's local.
--- A `&[u8]` is Copy, so what it owns is had twice: once for the file at exit, and once inside the result, beside the facts of the place.
+-- `open` meets its contract: a walk of its MIR, by hand. A `RecordReader` is made of the file passed and 32, in the
+-- result's local.
+-- A `&[u8]` is Copy, so what it owns is had twice: once for the file at exit, and once inside the result, beside the
+-- facts of the place.
 -- Assumes nothing.
 use mathlib.Core.Path.{refl}
 use Prim.Native.Nat.{ℕ}

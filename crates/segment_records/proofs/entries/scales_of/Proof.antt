@@ -1,4 +1,5 @@
--- `segments::entries::scales_of` meets its contract: an active feature moves the index, and else the scales are the frame's.
+-- `segments::entries::scales_of` meets its contract: an active feature moves the index, and else the scales are the
+-- frame's.
 use borrow.Author.Needs.{needs}
 use mir.Facts.{toZ-ofZ}
 use mir.Syntax.{w16}
