@@ -146,7 +146,8 @@ fn has_room(size: usize, at: usize, n: usize) -> bool
     size - at >= n
 }
 
-// Makes room for n bytes from `at` on: where fewer are left, what stands before it is written, and the text goes on at 0.
+// Makes room for n bytes from `at` on: where fewer are left, what stands before it is written, and the text goes on
+// at 0.
 pub fn make_room(out: &[u8], at: usize, n: usize) -> Room
     ensures { λ r. ⌜ RoomFor (length (now (out .entry))) at n r ⌝ }
 {

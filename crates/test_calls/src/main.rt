@@ -1,11 +1,11 @@
 // Makes the calls of the libraries that no other program makes, and prints a line for each answer, for tests/calls.
-// Standard input is a series of records: four bytes of length, low byte first, and as many bytes, of which the first says
-// what is asked. Other numbers are eight bytes, low byte first.
+// Standard input is a series of records: four bytes of length, low byte first, and as many bytes, of which the first
+// says what is asked. Other numbers are eight bytes, low byte first.
 // 0, a number: the number of the variant that has it in each of seven enums, or - for none.
-// 1, a byte 1 for yes, an offset, a size, the length of the new chunk, its bytes, and those of the last good one: the part
-// that is shown.
-// 2, a place and a file: the record there by its length, its time, where its data starts and where the next one stands; or
-// end, or cut.
+// 1, a byte 1 for yes, an offset, a size, the length of the new chunk, its bytes, and those of the last good one: the
+// part that is shown.
+// 2, a place and a file: the record there by its length, its time, where its data starts and where the next one
+// stands; or end, or cut.
 ghost use mathlib.Core.Path.{_≡_};
 ghost use lib.ListN.{length};
 use base_enums::BitDepth;

@@ -1,5 +1,5 @@
-// Answers chunks by a line of digests each, for the runs that put millions of them, and for the benchmark of a parse and of a segment step.
-// tests/reader/DIGEST.md says what is read and what is printed.
+// Answers chunks by a line of digests each, for the runs that put millions of them, and for the benchmark of a parse
+// and of a segment step. tests/reader/DIGEST.md says what is read and what is printed.
 ghost use Prim.Native.Nat.{_≤_};
 ghost use mathlib.Core.Path.{_≡_};
 ghost use lib.ListN.{length};
@@ -257,7 +257,8 @@ fn fresh() -> Series {
     }
 }
 
-// What is done with a chunk. A benchmark tells the cost of a parse, or of a segment step, from two counts; it keeps nothing.
+// What is done with a chunk. A benchmark tells the cost of a parse, or of a segment step, from two counts; it keeps
+// nothing.
 enum Work {
     Answer,
     Parses(u64),
@@ -519,8 +520,8 @@ fn next_record(s: &[u8]) -> Record {
     }
 }
 
-// What is read and not used yet lies in the input buffer from `start` to `end`, and the lines that are not written yet at the front of the
-// output buffer, up to `at`.
+// What is read and not used yet lies in the input buffer from `start` to `end`, and the lines that are not written
+// yet at the front of the output buffer, up to `at`.
 struct Run {
     start: usize,
     end: usize,

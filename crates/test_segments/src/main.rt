@@ -1,8 +1,8 @@
-// Reads cases from standard input and prints the eight segment records after each, a line for each record.
-// A case starts with a byte: 0, the old records are those that the last case left; 1, eight old records follow; 2, the
-// last case's records stay, so that the cost of a step can be told; 3, they stay and the four scales of each segment are
-// printed instead. Then come the fields of a header that the records follow from, spelled as `test_values` has it. What
-// lacks at the input's end is 255.
+// Reads cases from standard input and prints the eight segment records after each, a line for each record. A case
+// starts with a byte: 0, the old records are those that the last case left; 1, eight old records follow; 2, the last
+// case's records stay, so that the cost of a step can be told; 3, they stay and the four scales of each segment are
+// printed instead. Then come the fields of a header that the records follow from, spelled as `test_values` has it.
+// What lacks at the input's end is 255.
 use base_enums::ColorRange;
 use base_enums::ColorSpace;
 use base_enums::FrameType;

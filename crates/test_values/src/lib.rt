@@ -1,6 +1,6 @@
-// Values that bytes spell, for the programs of the tests: a byte past the slice's end is 255, a flag is 1 for set, and a
-// number with a sign is a byte, 0 for plus, 1 for minus, else for the least number of its type, and its magnitude, high
-// byte first.
+// Values that bytes spell, for the programs of the tests: a byte past the slice's end is 255, a flag is 1 for set,
+// and a number with a sign is a byte, 0 for plus, 1 for minus, else for the least number of its type, and its
+// magnitude, high byte first.
 ghost use mathlib.Core.Path.{_≡_};
 ghost use Rattle.test_values.specs.Values.{
   byteAt,

@@ -1,8 +1,8 @@
 // Prints the long form of the listing: of the IVF file on standard input, or, with the argument `series`, of series of
 // chunks with the state after each, for tests/reader.
-// A series is records: a byte 0 starts from a fresh state; a byte 1, four bytes of length, low byte first, and as many
-// bytes are a chunk; a byte 3, eight bytes of offset, eight of size, and a chunk's length and bytes are a single frame of
-// it, which is printed as the only frame of a chunk.
+// A series is records: a byte 0 starts from a fresh state; a byte 1, four bytes of length, low byte first, and as
+// many bytes are a chunk; a byte 3, eight bytes of offset, eight of size, and a chunk's length and bytes are a single
+// frame of it, which is printed as the only frame of a chunk.
 ghost use Prim.Native.Nat.{_≤_};
 ghost use lib.ListN.{length};
 use base_enums::BitDepth;
@@ -28,8 +28,8 @@ use libc::STDERR_FILENO;
 use segment_records::Segmentation;
 
 // Everything is printed by its form: the text, with marks in it. # stands for a number, % for one with a sign that is
-// lifted as in `text_signed`, ? for true or false, <a|b> for one of some words, and @ ends a form. One text holds all forms;
-// `main` hands it on, since what a text costs to prove grows with the calls beside it.
+// lifted as in `text_signed`, ? for true or false, <a|b> for one of some words, and @ ends a form. One text holds all
+// forms; `forms` hands it on, since what a text costs to prove grows with the calls beside it.
 
 // The numbers of the forms at which printing starts.
 const REFUSAL: usize = 0;
@@ -476,8 +476,15 @@ struct Page {
     broken: bool,
 }
 
-// What is printed between two looks at the room takes less: a frame's line, header and eight segment lines at most 6,288
-// bytes, with twenty digits to every number, a state's line 1,981, the last lines 91.
+impl Page {
+    fn moved(mut self, at: usize) -> Page {
+        self.at = at;
+        self
+    }
+}
+
+// What is printed between two looks at the room takes less: a frame's line, header and eight segment lines at most
+// 6,288 bytes, with twenty digits to every number, a state's line 1,981, the last lines 91.
 const ROOM: usize = 16384;
 
 // Writes where there may be no room for what comes next.
@@ -537,10 +544,7 @@ fn list_frame(form: &[u8], out: &mut [u8], place: Place, h: Header, before: List
     let segments = Segmentation::update_segmentation(old, h);
     let page = flushed(out, before.page);
     let at = put_frame(form, out, page.at, place, h, segments);
-    let page = Page {
-        at,
-        broken: page.broken,
-    };
+    let page = page.moved(at);
     Listed { page, segments }
 }
 
@@ -592,10 +596,7 @@ fn list_refusal(
 ) -> Listed {
     let page = flushed(out, before.page);
     let at = put_refusal(form, out, page.at, chunk, refusal, frame);
-    let page = Page {
-        at,
-        broken: page.broken,
-    };
+    let page = page.moved(at);
     let segments = before.segments;
     Listed { page, segments }
 }
@@ -630,10 +631,7 @@ fn list_state(form: &[u8], out: &mut [u8], file: bool, state: ReaderState, befor
     }
     let page = flushed(out, before);
     let at = put_state(form, out, page.at, state);
-    Page {
-        at,
-        broken: page.broken,
-    }
+    page.moved(at)
 }
 
 fn listed_before(series: Series) -> Listed {
@@ -913,10 +911,7 @@ fn end_refused(form: &[u8], out: &mut [u8]) -> Ending {
 fn end_cut(form: &[u8], out: &mut [u8], page: Page, series: Series) -> Ending {
     let at = put_file_refused(form, out, page.at, 8);
     let at = put_last(form, out, at, series.chunk, series.refused);
-    let page = Page {
-        at,
-        broken: page.broken,
-    };
+    let page = page.moved(at);
     finished(out, page, Ending::Refused)
 }
 
@@ -925,10 +920,7 @@ fn end_whole(form: &[u8], out: &mut [u8], page: Page, series: Series) -> Ending 
         return finished(out, page, Ending::Done);
     }
     let at = put_last(form, out, page.at, series.chunk, series.refused);
-    let page = Page {
-        at,
-        broken: page.broken,
-    };
+    let page = page.moved(at);
     finished(out, page, Ending::Done)
 }
 
@@ -1033,10 +1025,7 @@ fn main() {
         Mode::File => forms(true),
         Mode::Series => forms(false),
         Mode::Unknown => {
-            io::write_all(
-                STDERR_FILENO,
-                b"tool_trace: the only argument there is is series\n",
-            );
+            io::write_all(STDERR_FILENO, b"tool_trace: takes no argument but series\n");
         }
     }
 }

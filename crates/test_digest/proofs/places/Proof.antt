@@ -1,4 +1,4 @@
--- `digest::places` is safe and ends: the count goes from 1 to 20.
+-- `test_digest::places` is safe and ends: the count goes from 1 to 20.
 use Prim.Native.Nat.{_≤_, _-_}
 use borrow.Author.Needs.{needs}
 use Rattle.test_digest.proofs.places.Statement.{statement}

@@ -1,4 +1,4 @@
--- `digest::put` is safe and ends: the index runs from 0 to the number of digits, and the buffer keeps its length.
+-- `test_digest::put` is safe and ends: the index runs from 0 to the number of digits, and the buffer keeps its length.
 use mathlib.Core.Path.{_≡_}
 use Prim.Native.Nat.{_+_, _-_, _<_, _≤_}
 use lib.ListN.{length, length-set}

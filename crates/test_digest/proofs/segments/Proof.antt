@@ -1,4 +1,4 @@
--- `digest::segments` is safe and ends: the index runs from 0 to 8.
+-- `test_digest::segments` is safe and ends: the index runs from 0 to 8.
 use Prim.Native.Nat.{_≤_, _-_}
 use borrow.Author.Needs.{needs}
 use Rattle.test_digest.proofs.segments.Statement.{statement}

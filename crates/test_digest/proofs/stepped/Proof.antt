@@ -1,4 +1,4 @@
--- `digest::stepped` is safe and ends: the steps are counted.
+-- `test_digest::stepped` is safe and ends: the steps are counted.
 use Prim.Native.Nat.{_-_}
 use borrow.Author.Needs.{needs}
 use Rattle.test_digest.proofs.stepped.Statement.{statement}

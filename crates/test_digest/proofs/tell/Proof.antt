@@ -1,4 +1,4 @@
--- `digest::tell` is safe and ends: the index runs from 0 to the number of frames.
+-- `test_digest::tell` is safe and ends: the index runs from 0 to the number of frames.
 use Prim.Native.Nat.{_≤_, _-_}
 use borrow.Author.Needs.{needs}
 use Rattle.test_digest.proofs.tell.Statement.{statement}

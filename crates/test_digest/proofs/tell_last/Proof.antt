@@ -1,4 +1,4 @@
--- `digest::tell_last` is safe and ends: the measure is the number of parses that are left.
+-- `test_digest::tell_last` is safe and ends: the measure is the number of parses that are left.
 use borrow.Author.Needs.{needs}
 use Rattle.test_digest.proofs.tell_last.Statement.{statement}
 use Rattle.test_digest.proofs.tell_last.Tie as tie

@@ -1,4 +1,5 @@
--- `test_segments::answer_all` is safe and ends: the measure is the number of cases that are left, and the buffer keeps its length.
+-- `test_segments::answer_all` is safe and ends: the measure is the number of cases that are left, and the buffer
+-- keeps its length.
 use mathlib.Core.Path.{_≡_}
 use lib.ListN.{length}
 use borrow.Author.Needs.{needs}

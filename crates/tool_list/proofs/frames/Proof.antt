@@ -1,4 +1,4 @@
--- `list::frames` is safe and ends: the index runs from 0 to the number of frames, and the buffer keeps its length.
+-- `tool_list::frames` is safe and ends: the index runs from 0 to the number of frames, and the buffer keeps its length.
 use mathlib.Core.Path.{_≡_}
 use Prim.Native.Nat.{_≤_, _-_}
 use lib.ListN.{length}

@@ -1,4 +1,5 @@
--- `tool_trace::trace` is safe and ends: the measure is the number of records that are left, and the buffers keep their lengths.
+-- `tool_trace::trace` is safe and ends: the measure is the number of records that are left, and the buffers keep
+-- their lengths.
 use mathlib.Core.Path.{_≡_}
 use lib.ListN.{length}
 use borrow.Author.Needs.{needs}
