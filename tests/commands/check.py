@@ -9,6 +9,7 @@ bin/list with the programs of the folder that VP9_READER_PROGRAMS names, or else
 Exit 0 if all is as held, 1 if not."""
 
 import os
+import signal
 import sys
 import traceback
 
@@ -21,13 +22,21 @@ import words
 from scratch import Room, Skipped, Wrong
 
 GROUPS = (words, building, running, programs)
+# No case takes more than a few seconds; one that hangs must not hold up the gate.
+LIMIT = 60
+
+
+def too_long(_number, _frame):
+    raise Wrong(f"it took over {LIMIT} seconds")
 
 
 def tried(case):
     """What is wrong with a case, or that it was skipped, or nothing."""
     try:
         with Room() as scratch:
+            signal.alarm(LIMIT)
             case(scratch)
+            signal.alarm(0)
     except Skipped as reason:
         return f"skipped: {reason}"
     except Wrong as wrong:
@@ -50,6 +59,10 @@ def check(group, cases):
 
 
 def main():
+    # A command can't trap a signal that whoever started it ignores, as `nohup` and a shell's `&` do.
+    for each in (signal.SIGHUP, signal.SIGINT, signal.SIGQUIT, signal.SIGTERM):
+        signal.signal(each, signal.SIG_DFL)
+    signal.signal(signal.SIGALRM, too_long)
     wanted = sys.argv[1:]
     failures = 0
     for group in GROUPS:

@@ -32,13 +32,13 @@ pub record ReadOn (before : List ℕ) (at : ℕ) (r : Moved) (after : List ℕ) 
 abbrev pub endOf : Moved → ℕ → Filled
 endOf (Bytes n) at = Full
 endOf Nothing at = Ended at
-endOf Broken at = Failed
+endOf Broken at = Failed at
 
--- the input's end lies from the place on and before the buffer's end
+-- the input's end lies from the place on and before the buffer's end, and a failed read isn't before the place
 abbrev pub EndsWithin : ℕ → ℕ → Filled → Type 0
 EndsWithin at size Full = Unit
 EndsWithin at size (Ended n) = (at ≤ n) × (n < size)
-EndsWithin at size Failed = Unit
+EndsWithin at size (Failed n) = at ≤ n
 
 -- the bytes before the place stay
 pub record FilledFrom (before : List ℕ) (at : ℕ) (r : Filled) (after : List ℕ) : Type 0 where

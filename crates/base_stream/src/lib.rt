@@ -14,8 +14,8 @@ pub enum Filled {
     Full,
     // The input ended: the place after its last byte.
     Ended(usize),
-    // A read failed, and errno says why.
-    Failed,
+    // A read failed, and errno says why: the place after the last byte that came before.
+    Failed(usize),
 }
 
 // What one call moved.
@@ -55,7 +55,7 @@ fn end_of(moved: Moved, at: usize) -> Filled
     match moved {
         Moved::Nothing => Filled::Ended(at),
         Moved::Bytes(_) => Filled::Full,
-        Moved::Broken => Filled::Failed,
+        Moved::Broken => Filled::Failed(at),
     }
 }
 
@@ -77,7 +77,7 @@ pub fn fill(buf: &mut [u8], at: usize) -> Filled
         next += n;
         left -= 1;
     }
-    Filled::Failed
+    Filled::Failed(next)
 }
 
 // Reads n bytes to a buffer's front, which is to have room for them.
@@ -170,6 +170,8 @@ pub enum Ending {
     // It couldn't read, or write, for errno's reason.
     Unread,
     Unwritten,
+    // It has said already what it couldn't do.
+    Said,
 }
 
 // Writes a buffer's first `at` bytes, which come before the end as it is given.
@@ -193,6 +195,7 @@ impl Ending {
             Ending::Refused => say(b"status 1\n"),
             Ending::Unread => os::fail(b"can't read"),
             Ending::Unwritten => os::fail(b"can't write"),
+            Ending::Said => {}
         }
     }
 }

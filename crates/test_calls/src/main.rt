@@ -212,7 +212,7 @@ enum Asked {
 
 fn stopped(filled: Filled) -> Asked {
     match filled {
-        Filled::Failed => Asked::Unread,
+        Filled::Failed(_) => Asked::Unread,
         _ => Asked::End,
     }
 }

@@ -607,7 +607,7 @@ fn refilled(input: &mut [u8], run: Run) -> Run {
     match filled {
         Filled::Full => run.filled(input.len(), false),
         Filled::Ended(end) => run.filled(end, true),
-        Filled::Failed => run.unread(),
+        Filled::Failed(_) => run.unread(),
     }
 }
 

@@ -307,7 +307,7 @@ fn case(out: &mut [u8], kind: u8, last: [Segmentation; 8], at: usize) -> After {
     let mut buf = [255u8; 352];
     let filled = fill_front(&mut buf, length_of(kind));
     match filled {
-        Filled::Failed => unread(last, at),
+        Filled::Failed(_) => unread(last, at),
         _ => answered(out, kind, &buf, last, at),
     }
 }
@@ -326,7 +326,7 @@ fn next_case(out: &mut [u8], last: [Segmentation; 8], at: usize) -> After {
 
 fn stopped(filled: Filled, last: [Segmentation; 8], at: usize) -> After {
     match filled {
-        Filled::Failed => unread(last, at),
+        Filled::Failed(_) => unread(last, at),
         _ => ended(last, at),
     }
 }

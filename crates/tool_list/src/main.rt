@@ -22,6 +22,8 @@ struct Run {
     end: usize,
     // Nothing follows it.
     ended: bool,
+    // A read failed behind it, which is said already.
+    failed: bool,
     // How much of a record over the limit is still to be passed by.
     skip: u64,
     // The text that is not written yet.
@@ -31,7 +33,6 @@ struct Run {
     going: bool,
     // The file is refused.
     bad: bool,
-    unread: bool,
     unwritten: bool,
 }
 
@@ -56,13 +57,13 @@ impl Run {
             start: 0,
             end: 0,
             ended: false,
+            failed: false,
             skip: 0,
             at: 0,
             chunks: 0,
             refused: 0,
             going: true,
             bad: false,
-            unread: false,
             unwritten: false,
         }
     }
@@ -139,9 +140,14 @@ impl Run {
         self
     }
 
+    // The same, and no more can be read.
+    fn failed_behind(mut self, end: usize) -> Run {
+        self.failed = true;
+        self.filled(end, false)
+    }
+
     fn unread(mut self) -> Run {
         self.going = false;
-        self.unread = true;
         self
     }
 
@@ -152,14 +158,26 @@ impl Run {
     }
 }
 
+// Says why a read failed, while errno tells. What was read before is still listed.
+fn say_unread() {
+    let unread = Ending::Unread;
+    unread.say();
+}
+
 // Fills the buffer.
 fn refilled(input: &mut [u8], run: Run) -> Run {
+    if run.failed {
+        return run.unread();
+    }
     let n = base_buffer::to_front(input, run.start, run.end);
     let filled = base_stream::fill(input, n);
     match filled {
         Filled::Full => run.filled(input.len(), false),
         Filled::Ended(end) => run.filled(end, true),
-        Filled::Failed => run.unread(),
+        Filled::Failed(end) => {
+            say_unread();
+            run.failed_behind(end)
+        }
     }
 }
 
@@ -334,8 +352,8 @@ fn turn(input: &mut [u8], out: &mut [u8], before: Run, state: ReaderState) -> Af
 // Refusal 7 prints nothing else.
 fn open(input: &mut [u8], out: &mut [u8]) -> Run {
     let run = refilled(input, Run::new());
-    if !run.going {
-        return run;
+    if run.failed && run.end < 32 {
+        return run.unread();
     }
     let file = read_header(input, run);
     match file {
@@ -346,11 +364,11 @@ fn open(input: &mut [u8], out: &mut [u8]) -> Run {
 
 // Writes what is left to be written.
 fn finished(out: &[u8], run: Run) -> Ending {
-    if run.unread {
-        return Ending::Unread;
-    }
     if run.unwritten {
         return Ending::Unwritten;
+    }
+    if run.failed {
+        return base_stream::finish(out, run.at, Ending::Said);
     }
     if run.bad {
         base_stream::finish(out, run.at, Ending::Refused)

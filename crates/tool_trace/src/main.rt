@@ -726,7 +726,7 @@ enum Record {
 // What stands in a series where it ends early.
 fn stopped(filled: Filled) -> Record {
     match filled {
-        Filled::Failed => Record::Unread,
+        Filled::Failed(_) => Record::Unread,
         _ => Record::End,
     }
 }
@@ -772,7 +772,7 @@ fn read_file_header() -> Record {
     match filled {
         Filled::Full => file_header(&head),
         Filled::Ended(_) => Record::NoFile,
-        Filled::Failed => Record::Unread,
+        Filled::Failed(_) => Record::Unread,
     }
 }
 
@@ -789,7 +789,7 @@ fn data(filled: Filled, whole: Record) -> Record {
     match filled {
         Filled::Full => whole,
         Filled::Ended(_) => Record::Cut,
-        Filled::Failed => Record::Unread,
+        Filled::Failed(_) => Record::Unread,
     }
 }
 
@@ -818,7 +818,7 @@ fn read_file_record(buf: &mut [u8]) -> Record {
     match filled {
         Filled::Full => file_record(buf, &head),
         Filled::Ended(n) => { if n == 0 { Record::End } else { Record::Cut } }
-        Filled::Failed => Record::Unread,
+        Filled::Failed(_) => Record::Unread,
     }
 }
 
@@ -897,9 +897,16 @@ fn end(form: &[u8], out: &mut [u8], record: Record, series: Series) -> Ending {
     match record {
         Record::NoFile => end_refused(form, out),
         Record::Cut => end_cut(form, out, flushed(out, series.page), series),
-        Record::Unread => Ending::Unread,
+        Record::Unread => end_unread(out, series.page),
         _ => end_whole(form, out, flushed(out, series.page), series),
     }
+}
+
+// What was listed before a read failed is written all the same. Why it failed is said first, while errno tells.
+fn end_unread(out: &[u8], page: Page) -> Ending {
+    let unread = Ending::Unread;
+    unread.say();
+    finished(out, page, Ending::Said)
 }
 
 fn end_refused(form: &[u8], out: &mut [u8]) -> Ending {
