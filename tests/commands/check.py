@@ -23,7 +23,7 @@ from scratch import Room, Skipped, Wrong
 
 GROUPS = (words, building, running, programs)
 # No case takes more than a few seconds; one that hangs must not hold up the gate.
-LIMIT = 60
+LIMIT = 120
 
 
 def too_long(_number, _frame):

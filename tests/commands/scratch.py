@@ -170,7 +170,7 @@ class Scratch:
 
     def left(self):
         """The processes that outlived the command."""
-        end = time.time() + 0.5
+        end = time.time() + 5
         while found := list(self.running().values()):
             if time.time() > end:
                 return found
