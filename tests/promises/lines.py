@@ -41,15 +41,17 @@ TIED = {
 HEADER = [
     ("spelling", "base_shared/specs/Choice base_bits/specs/Bit"),
     ("refusals", "base_bits/src/lib"),
-    ("spelling", "base_bits/specs/Refusal base_bits/specs/Syntax base_bits/specs/Many"),
+    ("spelling", "base_bits/specs/Refusal base_syntax/specs/Syntax base_syntax/specs/Many"),
     ("spelling", "base_shared/specs/Lists grammar_tables/specs/Tables"),
-    ("spelling", "base_settings/src/size base_settings/specs/FrameSize grammar_tables/specs/Header"),
-    ("record", "base_enums/src/* base_settings/src/* base_types/src/*"),
-    ("record", "grammar_settings/specs/* grammar_record/specs/* base_enums/specs/* base_settings/specs/*"),
+    ("spelling", "base_size/* grammar_tables/specs/Header"),
+    ("record", "base_enums/src/* base_loop_filter/src/* base_quantization/src/* base_segmentation/src/*"),
+    ("record", "base_types/src/*"),
+    ("record", "grammar_settings/specs/* grammar_record/specs/* base_enums/specs/*"),
+    ("record", "base_loop_filter/specs/* base_quantization/specs/* base_segmentation/specs/*"),
     ("record", "base_types/specs/Header base_slots/specs/*"),
     ("refusals", "header_verdict/src/*"),
     ("record", "header_parser/src/* header_parser/specs/Answer"),
-    ("refusals", "base_bits/specs/Fault header_verdict/specs/* header_parser/specs/Demand"),
+    ("refusals", "base_syntax/specs/Fault header_verdict/specs/* header_parser/specs/Demand"),
 ]
 
 Part = collections.namedtuple("Part", "rows roots reading")
@@ -66,8 +68,8 @@ PARTS = {
     "state": Part({"": "a fresh state"}, "base_types/src/state.ReaderState::fresh", [("", "base_types/*")]),
     "numbers": Part(
         {"": "the enums' numbers, a segment's features"},
-        "base_enums/src/lib.*::* base_settings/src/segmentation.SegmentationParams::*feature*",
-        [("", "base_enums/* base_settings/*")]),
+        "base_enums/src/lib.*::* base_segmentation/src/lib.SegmentationParams::*feature*",
+        [("", "base_enums/* base_segmentation/*")]),
     "frame": Part(
         {"": "a single frame of a chunk"},
         "chunk_frame/src/lib.parse_frame header_verdict/src/lib.Place::number",
@@ -83,7 +85,7 @@ PARTS = {
     "segments": Part(
         {"": "the segment records"},
         "segment_records/src/lib.Segmentation::* segment_quant/src/lib.get_*",
-        [("", "base_shared/* base_enums/* base_settings/* segment_*/*")]),
+        [("", "base_shared/* base_enums/* base_segmentation/* segment_*/*")]),
     "ivf": Part(
         {"": "IVF files"},
         "ivf_file/src/lib.parse_ivf_header ivf_file/specs/File.fileNumber ivf_file/src/lib.read_record "

@@ -2,11 +2,3 @@ pub mod Number
 pub mod Gather
 pub mod Stand
 pub mod Begins
-pub mod Fields
-pub mod Laws
-pub mod Many
-pub mod Stopped
-pub mod Told
-pub mod Steps
-pub mod Binds
-pub mod Exact

@@ -1,7 +1,7 @@
 -- Facts on the bits and the number at a place, and what `read_bits` answers in each of its cases.
 -- Assumes nothing.
 use Prim.Native.Nat.{ℕ, zero, suc, _+_, _*_, _%_, _/_, _-_, _^_, _≤_, _<_}
-use mathlib.Core.Path.{_≡_, refl, ap}
+use mathlib.Core.Path.{_≡_, refl, ap, sym, _∙_}
 use mathlib.Core.Bool.{Bool, true, false}
 use mathlib.Core.List.{List}
 use native.Mathlib.Nat.{mod-lt, add-zero, add-suc, pow-suc, mul-assoc}
@@ -76,3 +76,7 @@ there-read b s p n r h e = rw h e
 pub not-there : (b : Bool) (s : List ℕ) (p n : ℕ) → b ≡ false → Value 0 (record { at = p }) ≡ readBitsIf b s p n
 unfolding readBitsIf
 not-there b s p n h = rw h
+
+-- any two answers that meet the promise of `read_bits` are one
+pub one-answer : (s : List ℕ) (p n : ℕ) (r q : Bits) → r ≡ readBits s p n → q ≡ readBits s p n → r ≡ q
+one-answer s p n r q h k = h ∙ sym k

@@ -1,7 +1,7 @@
 -- The bits that stand at a place: a list in two parts, and the spelling of a number.
 -- Assumes nothing.
 use Prim.Native.Nat.{ℕ, zero, suc, _+_, _*_, _%_, _/_, _^_, _<_}
-use mathlib.Core.Path.{_≡_, refl, ap}
+use mathlib.Core.Path.{_≡_, refl, ap, sym, _∙_}
 use mathlib.Core.Bool.{true}
 use mathlib.Core.List.{List, [], _∷_, _++_}
 use native.Mathlib.Nat.{add-zero, add-suc, suc-add}
@@ -54,3 +54,7 @@ number-spelt s p (suc n) v r h =
     let last = stands-right s p l (v % 2 ∷ []) h in
     let eq : p + length l ≡ p + n = ap (p +_) (length-spell n (v / 2)) in
     (lt-ltb (p + n) (reach s) (omega (arith, last .0)), omega (arith, before .1, ap (bitAt s) eq, last .1))
+
+-- of two numbers in range whose spellings stand there, both are one
+pub one-spelling : (s : List ℕ) (p n v w : ℕ) → v < 2 ^ n → w < 2 ^ n → Stands s p (spell n v) → Stands s p (spell n w) → v ≡ w
+one-spelling s p n v w lv lw hv hw = sym (number-spelt s p n v lv hv .1) ∙ number-spelt s p n w lw hw .1

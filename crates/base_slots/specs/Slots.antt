@@ -4,7 +4,7 @@ use Prim.Native.Nat.{ℕ, _+_, _/_, _%_, _^_}
 use mathlib.Core.List.{List, [], _∷_}
 use lib.Dec.{eqb}
 use Rattle.base_shared.specs.Choice.{pick}
-use Rattle.base_settings.specs.declared.size.FrameSize.{FrameSize}
+use Rattle.base_size.specs.declared.FrameSize.{FrameSize}
 use Rattle.base_shared.specs.Lists.{each}
 
 -- slot i takes the new size where bit i of the flags is 1

@@ -2,7 +2,7 @@
 ghost use Prim.Native.Nat.{_<_};
 ghost use mathlib.Core.Path.{_≡_};
 ghost use Rattle.base_slots.specs.Slots.{slotAfter, refreshed};
-use base_settings::FrameSize;
+use base_size::FrameSize;
 
 fn slot_after(flags: u8, i: usize, new: FrameSize, old: FrameSize) -> FrameSize
     requires { ⌜ i < 8 ⌝ }

@@ -18,7 +18,7 @@ kept-before before mid after at next h k g = sym (take-take at next after h) ∙
 ends-of : (m : Moved) {at next size : ℕ} → at ≤ next → next < size → EndsWithin at size (endOf m next)
 ends-of (Bytes n) h k = tt
 ends-of Nothing h k = (h, k)
-ends-of Broken h k = h
+ends-of Broken h k = (h, omega arith)
 
 pub stopped : (before mid after : List ℕ) (at next : ℕ) {m : Moved} {r : Filled} → r ≡ endOf m next → at ≤ next → next < length mid → length mid ≡ length before → take at mid ≡ take at before → ReadOn mid next m after → FilledFrom before at r after
 stopped before mid after at next {m} e h k l t g = record { kept = kept-before before mid after at next h t (g .kept); ends = rw e (ends-of m h (omega arith)) }

@@ -34,11 +34,11 @@ endOf (Bytes n) at = Full
 endOf Nothing at = Ended at
 endOf Broken at = Failed at
 
--- the input's end lies from the place on and before the buffer's end, and a failed read isn't before the place
+-- the input's end lies from the place on and before the buffer's end; a failed read may be met at that end too
 abbrev pub EndsWithin : ℕ → ℕ → Filled → Type 0
 EndsWithin at size Full = Unit
 EndsWithin at size (Ended n) = (at ≤ n) × (n < size)
-EndsWithin at size (Failed n) = at ≤ n
+EndsWithin at size (Failed n) = (at ≤ n) × (n ≤ size)
 
 -- the bytes before the place stay
 pub record FilledFrom (before : List ℕ) (at : ℕ) (r : Filled) (after : List ℕ) : Type 0 where

@@ -64,6 +64,9 @@ fn end_of(moved: Moved, at: usize) -> Filled
 pub fn fill(buf: &mut [u8], at: usize) -> Filled
     ensures { λ r. ⌜ FilledFrom (now (buf .entry)) at r (now (buf .exit)) ⌝ }
 {
+    if at > buf.len() {
+        return Filled::Full;
+    }
     let mut next = at;
     let mut left = u64::MAX;
     while left > 0 {

@@ -2,9 +2,9 @@
 use Prim.Native.Nat.{ℕ}
 use mathlib.Core.Bool.{Bool, true, false}
 use lib.ListN.{replicate}
-use Rattle.base_settings.specs.LoopFilterParams.{defaultFilter}
-use Rattle.base_settings.specs.QuantizationParams.{defaultQuantization}
-use Rattle.base_settings.specs.SegmentationParams.{defaultSegmentation}
+use Rattle.base_loop_filter.specs.LoopFilterParams.{defaultFilter}
+use Rattle.base_quantization.specs.QuantizationParams.{defaultQuantization}
+use Rattle.base_segmentation.specs.SegmentationParams.{defaultSegmentation}
 use Rattle.base_enums.specs.declared.BitDepth.the-variants.{Depth8}
 use Rattle.base_enums.specs.declared.ColorRange.the-variants.{StudioSwing}
 use Rattle.base_enums.specs.declared.ColorSpace.the-variants.{Unknown}

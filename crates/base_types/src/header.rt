@@ -7,9 +7,9 @@ use base_enums::ColorSpace;
 use base_enums::FrameType;
 use base_enums::InterpolationFilter;
 use base_enums::Profile;
-use base_settings::LoopFilterParams;
-use base_settings::QuantizationParams;
-use base_settings::SegmentationParams;
+use base_loop_filter::LoopFilterParams;
+use base_quantization::QuantizationParams;
+use base_segmentation::SegmentationParams;
 
 pub struct Header {
     pub profile: Profile,

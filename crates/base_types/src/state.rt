@@ -4,9 +4,9 @@ ghost use Rattle.base_types.specs.ReaderState.{freshState};
 use base_enums::BitDepth;
 use base_enums::ColorRange;
 use base_enums::ColorSpace;
-use base_settings::FrameSize;
-use base_settings::LoopFilterParams;
-use base_settings::SegmentationParams;
+use base_loop_filter::LoopFilterParams;
+use base_segmentation::SegmentationParams;
+use base_size::FrameSize;
 
 pub struct ReaderState {
     pub bit_depth: BitDepth,

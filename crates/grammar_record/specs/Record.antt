@@ -6,7 +6,7 @@ use mathlib.Core.List.{List, [], _∷_}
 use lib.Dec.{eqb}
 use lib.ListN.{length, replicate}
 use Rattle.base_shared.specs.Choice.{pick}
-use Rattle.base_bits.specs.Syntax.{flag, flat}
+use Rattle.base_syntax.specs.Syntax.{flag, flat}
 use Rattle.base_enums.specs.Profile.{profileOf}
 use Rattle.base_enums.specs.ColorSpace.{colorSpaceOf}
 use Rattle.base_enums.specs.declared.BitDepth.the-variants.{Depth8}

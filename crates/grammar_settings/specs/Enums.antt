@@ -4,7 +4,7 @@
 use Prim.Native.Nat.{ℕ}
 use mathlib.Core.Bool.{Bool, true, false}
 use Rattle.base_shared.specs.Choice.{pick}
-use Rattle.base_bits.specs.Syntax.{flag}
+use Rattle.base_syntax.specs.Syntax.{flag}
 use Rattle.base_enums.specs.ColorRange.{colorRangeOf}
 use Rattle.base_enums.specs.InterpolationFilter.{filterOfLiteral}
 use Rattle.base_enums.specs.declared.BitDepth.{BitDepth}

@@ -9,11 +9,11 @@ use lib.Dec.{eqb}
 use lib.IntN.{ℤ, pos, negsuc, negℤ, natAbs}
 use lib.ListN.{getD, replicate}
 use Rattle.base_shared.specs.Choice.{pick}
-use Rattle.base_bits.specs.Syntax.{flag}
-use Rattle.base_bits.specs.Many.{Times, eachOf}
-use Rattle.base_settings.specs.declared.loop_filter.LoopFilterParams.{LoopFilterParams}
-use Rattle.base_settings.specs.declared.quantization.QuantizationParams.{QuantizationParams}
-use Rattle.base_settings.specs.declared.segmentation.SegmentationParams.{SegmentationParams}
+use Rattle.base_syntax.specs.Syntax.{flag}
+use Rattle.base_syntax.specs.Many.{Times, eachOf}
+use Rattle.base_loop_filter.specs.declared.LoopFilterParams.{LoopFilterParams}
+use Rattle.base_quantization.specs.declared.QuantizationParams.{QuantizationParams}
+use Rattle.base_segmentation.specs.declared.SegmentationParams.{SegmentationParams}
 use Rattle.grammar_tables.specs.Tables.{DeltaValues, LoopFilterValues, QuantizerValues, ProbValues, FeatureValues, SegmentationValues}
 
 -- the number of a magnitude and a sign, 0 being 0 with either sign

@@ -7,13 +7,13 @@ use mathlib.Core.List.{List, [], _∷_}
 use native.Mathlib.Omega.{arith}
 use lib.Dec.{eqb, ltb}
 use Rattle.base_bits.specs.Refusal.{the, syncCode}
-use Rattle.base_bits.specs.Syntax.{fixed, flag, size}
-use Rattle.base_bits.specs.Many.{manyFields}
-use Rattle.base_bits.specs.Reader.{groupIf}
-use Rattle.base_bits.specs.Law.{Any, Reads}
-use Rattle.base_bits.proofs.Fields.{size-append, size-if, size-optional, zeros}
-use Rattle.base_bits.proofs.Laws.{take, take-if, take-by, demand, then, then-as, next-by, next-if, group-if, last, respelt, done}
-use Rattle.base_settings.specs.declared.size.FrameSize.{FrameSize}
+use Rattle.base_syntax.specs.Syntax.{fixed, flag, size}
+use Rattle.base_syntax.specs.Many.{manyFields}
+use Rattle.base_syntax.specs.Reader.{groupIf}
+use Rattle.base_syntax.specs.Law.{Any, Reads}
+use Rattle.base_syntax.proofs.Fields.{size-append, size-if, size-optional, zeros}
+use Rattle.base_syntax.proofs.Laws.{take, take-if, take-by, demand, then, then-as, next-by, next-if, group-if, last, respelt, done}
+use Rattle.base_size.specs.declared.FrameSize.{FrameSize}
 use Rattle.base_shared.specs.Lists.{first}
 use Rattle.grammar_tables.specs.Tables.{colorFields, sizeFields, renderFields, refFields, refsFields, foundFields, foundAt, deltaFields, loopFilterFields, quantizerFields, probFields, probsFields, featureFields, featuresFields, segmentationFields, runFields, tilesFields, least, most}
 use Rattle.grammar_tables.specs.Header.{FrameValues, isKey, isIntra, isColored, sizeOf, sizeFrom, frameSize, frameFields, HeaderValues, headerProfile, showsExisting, headerFields}

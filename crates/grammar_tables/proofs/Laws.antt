@@ -11,12 +11,12 @@ use lib.Dec.{eqb}
 use borrow.Author.Tests.{eqb-true, eqb-false}
 use Rattle.base_bits.specs.Refusal.{Name, the, item}
 use Rattle.base_shared.specs.Choice.{pick}
-use Rattle.base_bits.specs.Syntax.{fld, flag, size, Ranged}
-use Rattle.base_bits.specs.Many.{Times, manyFields}
-use Rattle.base_bits.specs.Law.{Any, Reads}
-use Rattle.base_bits.proofs.Fields.{size-append, size-if, size-optional, zeros}
-use Rattle.base_bits.proofs.Laws.{field-reads, group-if, take, take-in, take-if, take-by, branch-in, then, next-if, last, ends, respelt, done}
-use Rattle.base_bits.proofs.Many.{many-reads, many-size, many-zeros}
+use Rattle.base_syntax.specs.Syntax.{fld, flag, size, Ranged}
+use Rattle.base_syntax.specs.Many.{Times, manyFields}
+use Rattle.base_syntax.specs.Law.{Any, Reads}
+use Rattle.base_syntax.proofs.Fields.{size-append, size-if, size-optional, zeros}
+use Rattle.base_syntax.proofs.Laws.{field-reads, group-if, take, take-in, take-if, take-by, branch-in, then, next-if, last, ends, respelt, done}
+use Rattle.base_syntax.proofs.Many.{many-reads, many-size, many-zeros}
 use Rattle.grammar_tables.specs.Tables.{ColorValues, colorFields, deep, sampled, srgb, SizeValues, sizeFields, RenderValues, renderFields, RefValues, RefsValues, refFields, refsFields, FoundValues, foundFields, DeltaValues, deltaFields, refDelta, modeDelta, LoopFilterValues, loopFilterFields, QuantizerValues, quantizerFields, deltaQ, ProbValues, probFields, probsFields, FeatureValues, featureFields, featureBits, featureSigned, feature, featuresFields, SegmentationValues, segmentationFields, runFields, TilesValues, tilesFields, superblocks, span}
 use Rattle.grammar_tables.specs.Reading.{readColor, noColor, readSize, noSizeValues, readRender, readRef, readRefs, noRefs, readFound, noFound, readDelta, noDelta, readRefDeltas, readModeDeltas, noRefDeltas, noModeDeltas, readLoopFilter, readDeltaQ, readQuantizer, readProb, noProb, readProbs, noProbs, readFeature, readFeatures, noFeatures, readSegmentation, readRun, readTiles}
 use Rattle.grammar_tables.proofs.Limits.{most-le}

@@ -10,9 +10,9 @@ use lib.ListN.{getD}
 use Rattle.base_bits.specs.Bit.{Begins}
 use Rattle.base_bits.specs.Refusal.{the, frameMarker, syncCode}
 use Rattle.base_shared.specs.Choice.{pick}
-use Rattle.base_bits.specs.Syntax.{Field, fld, fixed, flag, fldIf, optional, flat, Ranged, _then_}
-use Rattle.base_settings.specs.FrameSize.{noSize}
-use Rattle.base_settings.specs.declared.size.FrameSize.{FrameSize}
+use Rattle.base_syntax.specs.Syntax.{Field, fld, fixed, flag, fldIf, optional, flat, Ranged, _then_}
+use Rattle.base_size.specs.FrameSize.{noSize}
+use Rattle.base_size.specs.declared.FrameSize.{FrameSize}
 use Rattle.grammar_tables.specs.Tables.{ColorValues, colorFields, SizeValues, sizeFields, RenderValues, renderFields, RefsValues, refsFields, FoundValues, foundFields, foundAt, LoopFilterValues, loopFilterFields, QuantizerValues, quantizerFields, SegmentationValues, segmentationFields, TilesValues, tilesFields}
 
 -- what comes after show_existing_frame

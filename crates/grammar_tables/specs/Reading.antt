@@ -9,10 +9,10 @@ use mathlib.Core.List.{List}
 use lib.Dec.{eqb, ltb}
 use Rattle.base_bits.specs.Refusal.{Name, the, item, frameMarker, syncCode}
 use Rattle.base_shared.specs.Choice.{pick}
-use Rattle.base_bits.specs.Syntax.{flag}
-use Rattle.base_bits.specs.Reader.{Reader, give, _>>=_, field, must, groupIf, fieldIf}
-use Rattle.base_bits.specs.Many.{Times, times, many}
-use Rattle.base_settings.specs.declared.size.FrameSize.{FrameSize}
+use Rattle.base_syntax.specs.Syntax.{flag}
+use Rattle.base_syntax.specs.Reader.{Reader, give, _>>=_, field, must, groupIf, fieldIf}
+use Rattle.base_syntax.specs.Many.{Times, times, many}
+use Rattle.base_size.specs.declared.FrameSize.{FrameSize}
 use Rattle.grammar_tables.specs.Tables.{ColorValues, deep, sampled, srgb, SizeValues, RenderValues, RefValues, RefsValues, FoundValues, foundAt, DeltaValues, LoopFilterValues, QuantizerValues, ProbValues, FeatureValues, featureBits, featureSigned, feature, SegmentationValues, TilesValues, span}
 use Rattle.grammar_tables.specs.Header.{FrameValues, HeaderValues, sizeFrom}
 

@@ -9,8 +9,8 @@ use lib.Dec.{eqb, leb, ltb}
 use lib.ListN.{getD}
 use Rattle.base_bits.specs.Refusal.{Name, the, item}
 use Rattle.base_shared.specs.Choice.{pick}
-use Rattle.base_bits.specs.Syntax.{Field, fld, flag, fldIf, optional, _then_}
-use Rattle.base_bits.specs.Many.{Times, manyFields}
+use Rattle.base_syntax.specs.Syntax.{Field, fld, flag, fldIf, optional, _then_}
+use Rattle.base_syntax.specs.Many.{Times, manyFields}
 use Rattle.base_shared.specs.Lists.{first}
 
 -- color_config() (6.2.2), for a profile: profiles 2 and 3 code the depth, and 1 and 3 the subsampling, unless the

@@ -3,8 +3,8 @@
 use Prim.Native.Nat.{ℕ}
 use mathlib.Core.Path.{_≡_}
 use mathlib.Core.List.{List}
-use Rattle.base_bits.specs.Reader.{got, valued}
-use Rattle.base_settings.specs.declared.size.FrameSize.{FrameSize}
+use Rattle.base_syntax.specs.Reader.{got, valued}
+use Rattle.base_size.specs.declared.FrameSize.{FrameSize}
 use Rattle.part_color.specs.declared.Color.{Color}
 use Rattle.part_sizes.specs.declared.Sizes.{Sizes}
 use Rattle.part_size_with_refs.specs.SizeWithRefs.{SizeWithRefsValues, sizeWithRefsOf}

@@ -1,8 +1,8 @@
 -- The picture of an inter frame (VP9 6.2): the slots that it writes and reads, sizes, motion.
 -- Assumes nothing.
 use mathlib.Core.List.{List}
-use Rattle.base_bits.specs.Reader.{Reader, give, _>>=_}
-use Rattle.base_settings.specs.declared.size.FrameSize.{FrameSize}
+use Rattle.base_syntax.specs.Reader.{Reader, give, _>>=_}
+use Rattle.base_size.specs.declared.FrameSize.{FrameSize}
 use Rattle.part_color.specs.declared.Color.{Color}
 use Rattle.part_refs.specs.Refs.{refsOf}
 use Rattle.part_size_with_refs.specs.SizeWithRefs.{SizeWithRefsValues, noSizeWithRefs, readSizeWithRefs, sizeWithRefsOf}

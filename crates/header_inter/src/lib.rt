@@ -1,11 +1,11 @@
 // The picture of an inter frame.
 ghost use mathlib.Core.Path.{_≡_};
-ghost use Rattle.base_bits.specs.Reader.{over};
+ghost use Rattle.base_syntax.specs.Reader.{over};
 ghost use Rattle.header_picture.specs.Picture.{viewPicture};
 ghost use Rattle.header_inter.specs.Inter.{readInter, interOf};
 use base_bits::Cursor;
 use base_bits::Refusal;
-use base_settings::FrameSize;
+use base_size::FrameSize;
 use header_picture::Picture;
 use header_picture::PictureRead;
 use part_color::Color;

@@ -6,10 +6,10 @@ use mathlib.Core.Bool.{Bool, true, false}
 use mathlib.Core.List.{List}
 use Rattle.base_bits.specs.declared.Refusal.{Refusal}
 use Rattle.base_bits.specs.declared.Refusal.the-variants.{PastEnd}
-use Rattle.base_bits.specs.Syntax.{flag}
-use Rattle.base_bits.specs.Reader.{Got, Read, got, refused, over, alter, groupIf, said}
-use Rattle.base_bits.proofs.Steps.{group-step, group-stop, tail, alter-over}
-use Rattle.base_settings.specs.declared.size.FrameSize.{FrameSize}
+use Rattle.base_syntax.specs.Syntax.{flag}
+use Rattle.base_syntax.specs.Reader.{Got, Read, got, refused, over, alter, groupIf, said}
+use Rattle.base_syntax.proofs.Steps.{group-step, group-stop, tail, alter-over}
+use Rattle.base_size.specs.declared.FrameSize.{FrameSize}
 use Rattle.part_traits.specs.declared.Kind.{Kind}
 use Rattle.base_bits.specs.declared.Cursor.{Cursor}
 use Rattle.part_traits.specs.declared.KindRead.{KindRead}

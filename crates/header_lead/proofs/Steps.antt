@@ -5,9 +5,9 @@ use mathlib.Core.Path.{_≡_}
 use mathlib.Core.List.{List}
 use Rattle.base_bits.specs.declared.Cursor.{Cursor}
 use Rattle.base_bits.specs.declared.Refusal.{Refusal}
-use Rattle.base_bits.specs.Reader.{Got, Read, got, refused, bind, over, said, valued}
-use Rattle.base_bits.proofs.Steps.{group-step, group-stop}
-use Rattle.base_settings.specs.declared.size.FrameSize.{FrameSize}
+use Rattle.base_syntax.specs.Reader.{Got, Read, got, refused, bind, over, said, valued}
+use Rattle.base_syntax.proofs.Steps.{group-step, group-stop}
+use Rattle.base_size.specs.declared.FrameSize.{FrameSize}
 use Rattle.part_traits.specs.declared.Traits.{Traits}
 use Rattle.part_traits.specs.declared.Context.{Context}
 use Rattle.part_traits.specs.Traits.{TraitsValues, traitsOf}

@@ -4,9 +4,9 @@ use Prim.Native.Nat.{ℕ}
 use mathlib.Core.Bool.{Bool, _||_}
 use mathlib.Core.List.{List}
 use lib.Dec.{eqb}
-use Rattle.base_bits.specs.Syntax.{flag}
-use Rattle.base_bits.specs.Reader.{Got, got, refused, Reader, give, _>>=_}
-use Rattle.base_settings.specs.declared.size.FrameSize.{FrameSize}
+use Rattle.base_syntax.specs.Syntax.{flag}
+use Rattle.base_syntax.specs.Reader.{Got, got, refused, Reader, give, _>>=_}
+use Rattle.base_size.specs.declared.FrameSize.{FrameSize}
 use Rattle.part_traits.specs.Traits.{TraitsValues, readTraits, traitsOf}
 use Rattle.part_traits.specs.Context.{ContextValues, readContext, contextOf}
 use Rattle.part_color.specs.declared.Color.{Color}

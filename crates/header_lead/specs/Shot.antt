@@ -4,9 +4,9 @@ use Prim.Native.Nat.{ℕ}
 use mathlib.Core.Bool.{Bool, not, _&&_}
 use mathlib.Core.List.{List}
 use Rattle.base_shared.specs.Choice.{pick}
-use Rattle.base_bits.specs.Syntax.{flag}
-use Rattle.base_bits.specs.Reader.{Got, got, refused, Reader, give, _>>=_, groupIf}
-use Rattle.base_settings.specs.declared.size.FrameSize.{FrameSize}
+use Rattle.base_syntax.specs.Syntax.{flag}
+use Rattle.base_syntax.specs.Reader.{Got, got, refused, Reader, give, _>>=_, groupIf}
+use Rattle.base_size.specs.declared.FrameSize.{FrameSize}
 use Rattle.part_traits.specs.Kind.{KindValues, noKind, readKind, kindOf}
 use Rattle.part_traits.specs.declared.Kind.{Kind}
 use Rattle.part_color.specs.declared.Color.{Color}

@@ -1,12 +1,12 @@
 // A frame's header from frame_type to frame_context_idx: what kind of frame it is, its picture, and its context.
 ghost use mathlib.Core.Path.{_≡_};
-ghost use Rattle.base_bits.specs.Reader.{over, alter};
+ghost use Rattle.base_syntax.specs.Reader.{over, alter};
 ghost use Rattle.header_picture.specs.Picture.{viewPicture};
 ghost use Rattle.header_lead.specs.Shot.{withKind, readShot, shotOf, viewShot};
 ghost use Rattle.header_lead.specs.Lead.{readLead, leadOf, viewLead};
 use base_bits::Cursor;
 use base_bits::Refusal;
-use base_settings::FrameSize;
+use base_size::FrameSize;
 use header_picture::Picture;
 use header_picture::PictureRead;
 use part_color::Color;

@@ -7,10 +7,10 @@ use mathlib.Core.List.{List}
 use lib.Dec.{eqb}
 use Rattle.base_bits.specs.Refusal.{the}
 use Rattle.base_shared.specs.Choice.{pick}
-use Rattle.base_bits.specs.Syntax.{flag}
-use Rattle.base_bits.specs.Reader.{Read, read, bind, field, groupIf, fieldIf}
-use Rattle.base_bits.proofs.Binds.{bind-assoc, bind-same, split}
-use Rattle.base_settings.specs.declared.size.FrameSize.{FrameSize}
+use Rattle.base_syntax.specs.Syntax.{flag}
+use Rattle.base_syntax.specs.Reader.{Read, read, bind, field, groupIf, fieldIf}
+use Rattle.base_syntax.proofs.Binds.{bind-assoc, bind-same, split}
+use Rattle.base_size.specs.declared.FrameSize.{FrameSize}
 use Rattle.grammar_tables.specs.Tables.{foundAt}
 use Rattle.grammar_tables.specs.Header.{FrameValues, HeaderValues, sizeFrom}
 use Rattle.grammar_tables.specs.Reading.{noColor, noRefs, noFound, readFrame, readHeader, noFrame}

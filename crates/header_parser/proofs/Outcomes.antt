@@ -4,7 +4,7 @@ use Prim.Native.Nat.{ℕ}
 use mathlib.Core.Path.{_≡_, refl, _∙_}
 use native.Mathlib.Omega.{arith}
 use Rattle.base_bits.specs.declared.Refusal.{Refusal}
-use Rattle.base_bits.specs.Reader.{Read, read, stopped, got, refused, bind, over}
+use Rattle.base_syntax.specs.Reader.{Read, read, stopped, got, refused, bind, over}
 use Rattle.base_types.specs.declared.state.ReaderState.{ReaderState}
 use Rattle.header_parser.specs.declared.HeaderRead.{HeaderRead}
 use Rattle.header_parser.specs.Answer.{refusedWith, outcome}

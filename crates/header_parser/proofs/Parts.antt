@@ -8,10 +8,10 @@ use Rattle.base_bits.specs.declared.Cursor.{Cursor}
 use Rattle.base_bits.specs.declared.Next.the-variants.{At, Refused as Stop}
 use Rattle.base_bits.specs.declared.Refusal.{Refusal}
 use Rattle.base_bits.specs.declared.Refusal.the-variants.{PastEnd}
-use Rattle.base_bits.specs.Reader.{over}
+use Rattle.base_syntax.specs.Reader.{over}
 use Rattle.base_shared.specs.Choice.{pick}
-use Rattle.base_bits.specs.Syntax.{flag}
-use Rattle.base_bits.proofs.Steps.{gave, lacked}
+use Rattle.base_syntax.specs.Syntax.{flag}
+use Rattle.base_syntax.proofs.Steps.{gave, lacked}
 use Rattle.base_types.specs.declared.header.Header.{Header}
 use Rattle.base_types.specs.declared.state.ReaderState.{ReaderState}
 use Rattle.part_opening.specs.declared.Opening.{Opening}

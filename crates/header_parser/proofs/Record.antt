@@ -4,9 +4,9 @@ use Prim.Native.Nat.{ℕ}
 use mathlib.Core.Path.{_≡_}
 use mathlib.Core.List.{List}
 use lib.Dec.{eqb, ltb}
-use Rattle.base_bits.specs.Syntax.{flag}
-use Rattle.base_bits.proofs.Binds.{split}
-use Rattle.base_settings.specs.declared.size.FrameSize.{FrameSize}
+use Rattle.base_syntax.specs.Syntax.{flag}
+use Rattle.base_syntax.proofs.Binds.{split}
+use Rattle.base_size.specs.declared.FrameSize.{FrameSize}
 use Rattle.base_types.specs.declared.state.ReaderState.{ReaderState}
 use Rattle.part_traits.specs.Traits.{traitsOf}
 use Rattle.part_traits.specs.Kind.{kindOf}

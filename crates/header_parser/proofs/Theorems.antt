@@ -10,15 +10,15 @@ use lib.ListN.{length}
 use Rattle.base_bits.specs.declared.Refusal.{Refusal}
 use Rattle.base_bits.specs.declared.Refusal.the-variants.{FrameMarker, SyncCode, PastEnd}
 use Rattle.base_bits.specs.Refusal.{Mark, frameMarker, syncCode, markRefusal}
-use Rattle.base_bits.specs.Syntax.{flat, size, Ranged}
-use Rattle.base_bits.specs.Fault.{Fits, StopsIn, OtherNumber}
-use Rattle.base_bits.specs.Reader.{Read, read, stopped, over, refused}
+use Rattle.base_syntax.specs.Syntax.{flat, size, Ranged}
+use Rattle.base_syntax.specs.Fault.{Fits, StopsIn, OtherNumber}
+use Rattle.base_syntax.specs.Reader.{Read, read, stopped, over, refused}
 use Rattle.base_bits.proofs.Begins.{begins}
-use Rattle.base_bits.proofs.Fields.{length-flat}
-use Rattle.base_bits.proofs.Laws.{unique}
-use Rattle.base_bits.proofs.Stopped.{cut-begins, mark-begins}
-use Rattle.base_bits.proofs.Told.{past-end-exactly, mark-exactly}
-use Rattle.base_settings.specs.declared.size.FrameSize.{FrameSize}
+use Rattle.base_syntax.proofs.Fields.{length-flat}
+use Rattle.base_syntax.proofs.Laws.{unique}
+use Rattle.base_syntax.proofs.Stopped.{cut-begins, mark-begins}
+use Rattle.base_syntax.proofs.Told.{past-end-exactly, mark-exactly}
+use Rattle.base_size.specs.declared.FrameSize.{FrameSize}
 use Rattle.base_types.specs.declared.state.ReaderState.{ReaderState}
 use Rattle.header_verdict.specs.declared.Verdict.{Verdict}
 use Rattle.header_verdict.specs.declared.Verdict.the-variants.{Accepted, Refused}

@@ -9,11 +9,11 @@ use native.Mathlib.Omega.{arith}
 use lib.Dec.{eqb}
 use lib.ListN.{length}
 use Rattle.base_shared.specs.Choice.{pick}
-use Rattle.base_bits.specs.Syntax.{flag, flat}
-use Rattle.base_bits.specs.Reader.{read, bind, groupIf}
-use Rattle.base_bits.proofs.Fields.{length-flat}
-use Rattle.base_bits.proofs.Binds.{split}
-use Rattle.base_settings.specs.declared.size.FrameSize.{FrameSize}
+use Rattle.base_syntax.specs.Syntax.{flag, flat}
+use Rattle.base_syntax.specs.Reader.{read, bind, groupIf}
+use Rattle.base_syntax.proofs.Fields.{length-flat}
+use Rattle.base_syntax.proofs.Binds.{split}
+use Rattle.base_size.specs.declared.FrameSize.{FrameSize}
 use Rattle.base_types.specs.declared.state.ReaderState.{ReaderState}
 use Rattle.part_traits.specs.Traits.{traitsOf}
 use Rattle.part_traits.specs.Kind.{kindOf}

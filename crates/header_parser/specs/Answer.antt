@@ -4,7 +4,7 @@
 use Prim.Native.Nat.{ℕ}
 use mathlib.Core.List.{List}
 use Rattle.base_bits.specs.declared.Refusal.{Refusal}
-use Rattle.base_bits.specs.Reader.{Read, read, stopped}
+use Rattle.base_syntax.specs.Reader.{Read, read, stopped}
 use Rattle.base_types.specs.Header.{defaultHeader}
 use Rattle.base_types.specs.declared.header.Header.{Header}
 use Rattle.base_types.specs.declared.state.ReaderState.{ReaderState}

@@ -7,9 +7,9 @@ use mathlib.Core.List.{List}
 use Rattle.base_bits.specs.declared.Refusal.{Refusal}
 use Rattle.base_bits.specs.declared.Refusal.the-variants.{FrameMarker, SyncCode, PastEnd}
 use Rattle.base_bits.specs.Refusal.{frameMarker, syncCode}
-use Rattle.base_bits.specs.Syntax.{Field, Ranged}
-use Rattle.base_bits.specs.Fault.{StopsIn, PastLast, OtherNumber}
-use Rattle.base_settings.specs.declared.size.FrameSize.{FrameSize}
+use Rattle.base_syntax.specs.Syntax.{Field, Ranged}
+use Rattle.base_syntax.specs.Fault.{StopsIn, PastLast, OtherNumber}
+use Rattle.base_size.specs.declared.FrameSize.{FrameSize}
 use Rattle.base_types.specs.declared.state.ReaderState.{ReaderState}
 use Rattle.grammar_tables.specs.Header.{HeaderValues, headerFields, Spelled}
 use Rattle.grammar_record.specs.Record.{headerOf, stateAfter}

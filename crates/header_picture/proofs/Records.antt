@@ -9,8 +9,8 @@ use Rattle.base_bits.specs.declared.Bits.{Bits}
 use Rattle.base_bits.specs.declared.Bits.the-variants.{Value}
 use Rattle.base_bits.specs.declared.Cursor.{Cursor}
 use Rattle.base_bits.specs.Read.{readBits}
-use Rattle.base_bits.specs.Reader.{got, valued}
-use Rattle.base_bits.proofs.Steps.{value-lt}
+use Rattle.base_syntax.specs.Reader.{got, valued}
+use Rattle.base_syntax.proofs.Steps.{value-lt}
 use Rattle.part_color.specs.declared.Color.{Color}
 use Rattle.part_color.specs.Color.{colorOf}
 use Rattle.grammar_tables.specs.Tables.{ColorValues}

@@ -2,7 +2,7 @@
 -- Assumes nothing.
 use Prim.Native.Nat.{ℕ}
 use Rattle.base_bits.specs.Refusal.{the}
-use Rattle.base_bits.specs.Reader.{Reader, give, _>>=_, field}
+use Rattle.base_syntax.specs.Reader.{Reader, give, _>>=_, field}
 use Rattle.grammar_tables.specs.Reading.{readSync, noColor}
 use Rattle.grammar_tables.specs.Tables.{ColorValues}
 use Rattle.part_color.specs.Intra.{readIntraColor, intraColorOf}

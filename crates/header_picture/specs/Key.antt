@@ -1,7 +1,7 @@
 -- The picture of a key frame (VP9 6.2): sync code, colour, sizes. It refreshes every slot.
 -- Assumes nothing.
 use Prim.Native.Nat.{ℕ}
-use Rattle.base_bits.specs.Reader.{Reader, give, _>>=_}
+use Rattle.base_syntax.specs.Reader.{Reader, give, _>>=_}
 use Rattle.grammar_tables.specs.Reading.{readSync, noColor, readColor}
 use Rattle.part_color.specs.Color.{colorOf}
 use Rattle.grammar_tables.specs.Tables.{ColorValues}

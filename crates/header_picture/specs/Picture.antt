@@ -2,7 +2,7 @@
 -- Assumes nothing.
 use Prim.Native.Nat.{ℕ}
 use mathlib.Core.Bool.{false}
-use Rattle.base_bits.specs.Reader.{Got, got, refused}
+use Rattle.base_syntax.specs.Reader.{Got, got, refused}
 use Rattle.base_enums.specs.declared.InterpolationFilter.the-variants.{EightTap}
 use Rattle.part_color.specs.declared.Color.{Color}
 use Rattle.part_sizes.specs.declared.Sizes.{Sizes}

@@ -1,7 +1,7 @@
 // What a frame says of its picture: colour, sizes, references and motion; and the pictures of key frames and
 // intra-only frames.
 ghost use mathlib.Core.Path.{_≡_};
-ghost use Rattle.base_bits.specs.Reader.{over};
+ghost use Rattle.base_syntax.specs.Reader.{over};
 ghost use Rattle.header_picture.specs.Key.{readKey, keyOf};
 ghost use Rattle.header_picture.specs.IntraOnly.{readIntraOnly, intraOnlyOf};
 ghost use Rattle.header_picture.specs.Picture.{intraPicture, viewPicture};

@@ -6,10 +6,10 @@ use mathlib.Core.List.{List}
 use native.Mathlib.Omega.{arith}
 use Rattle.base_bits.specs.declared.Next.{Next}
 use Rattle.base_bits.specs.declared.Next.the-variants.{At, Refused}
-use Rattle.base_bits.specs.Reader.{Got, got, refused, viewNext}
-use Rattle.base_bits.proofs.Exact.{one-of}
-use Rattle.base_settings.specs.declared.loop_filter.LoopFilterParams.{LoopFilterParams}
-use Rattle.base_settings.specs.declared.segmentation.SegmentationParams.{SegmentationParams}
+use Rattle.base_syntax.specs.Reader.{Got, got, refused, viewNext}
+use Rattle.base_syntax.proofs.Exact.{one-of}
+use Rattle.base_loop_filter.specs.declared.LoopFilterParams.{LoopFilterParams}
+use Rattle.base_segmentation.specs.declared.SegmentationParams.{SegmentationParams}
 use Rattle.header_tail.specs.declared.Settings.{Settings}
 use Rattle.header_tail.specs.declared.SettingsRead.{SettingsRead}
 use Rattle.header_tail.specs.declared.Closing.{Closing}

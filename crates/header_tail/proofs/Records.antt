@@ -13,11 +13,11 @@ use Rattle.base_bits.specs.declared.Next.{Next}
 use Rattle.base_bits.specs.declared.Next.the-variants.{At, Refused}
 use Rattle.base_bits.specs.declared.Refusal.{Refusal}
 use Rattle.base_bits.specs.Read.{readBits}
-use Rattle.base_bits.specs.Reader.{Got, got, refused, viewNext, valued}
-use Rattle.base_bits.proofs.Steps.{value-lt}
-use Rattle.base_settings.specs.declared.loop_filter.LoopFilterParams.{LoopFilterParams}
-use Rattle.base_settings.specs.declared.quantization.QuantizationParams.{QuantizationParams}
-use Rattle.base_settings.specs.declared.segmentation.SegmentationParams.{SegmentationParams}
+use Rattle.base_syntax.specs.Reader.{Got, got, refused, viewNext, valued}
+use Rattle.base_syntax.proofs.Steps.{value-lt}
+use Rattle.base_loop_filter.specs.declared.LoopFilterParams.{LoopFilterParams}
+use Rattle.base_quantization.specs.declared.QuantizationParams.{QuantizationParams}
+use Rattle.base_segmentation.specs.declared.SegmentationParams.{SegmentationParams}
 use Rattle.grammar_tables.specs.Tables.{LoopFilterValues, QuantizerValues, SegmentationValues, TilesValues}
 use Rattle.grammar_settings.specs.Settings.{loopFilterOf, quantizerOf, segmentationOf}
 use Rattle.part_tiles.specs.declared.Tiles.{Tiles}

@@ -3,7 +3,7 @@
 use mathlib.Core.Path.{_≡_}
 use Rattle.base_bits.specs.declared.Cursor.{Cursor}
 use Rattle.base_bits.specs.declared.Refusal.the-variants.{PastEnd}
-use Rattle.base_bits.specs.Reader.{Got, got, refused}
+use Rattle.base_syntax.specs.Reader.{Got, got, refused}
 use Rattle.header_tail.specs.declared.Closing.{Closing}
 use Rattle.header_tail.specs.declared.ClosingRead.{ClosingRead}
 use Rattle.header_tail.specs.declared.ClosingRead.the-variants.{Value, Short}

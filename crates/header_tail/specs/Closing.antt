@@ -2,7 +2,7 @@
 -- Assumes nothing.
 use Prim.Native.Nat.{ℕ}
 use Rattle.base_bits.specs.Refusal.{the}
-use Rattle.base_bits.specs.Reader.{Got, got, refused, Reader, give, _>>=_, field}
+use Rattle.base_syntax.specs.Reader.{Got, got, refused, Reader, give, _>>=_, field}
 use Rattle.base_bits.specs.declared.Refusal.the-variants.{PastEnd}
 use Rattle.part_tiles.specs.Tiles.{tilesOf}
 use Rattle.grammar_tables.specs.Tables.{TilesValues}

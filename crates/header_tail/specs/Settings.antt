@@ -5,14 +5,14 @@ use mathlib.Core.Path.{_≡_}
 use mathlib.Core.Bool.{Bool, false}
 use mathlib.Core.List.{List}
 use Rattle.base_shared.specs.Choice.{pick}
-use Rattle.base_bits.specs.Reader.{Got, Reader, give, _>>=_, over, viewNext}
+use Rattle.base_syntax.specs.Reader.{Got, Reader, give, _>>=_, over, viewNext}
 use Rattle.base_bits.specs.declared.Next.{Next}
 use Rattle.base_bits.specs.declared.Next.the-variants.{At, Refused}
-use Rattle.base_settings.specs.LoopFilterParams.{resetFilter}
-use Rattle.base_settings.specs.QuantizationParams.{defaultQuantization}
-use Rattle.base_settings.specs.SegmentationParams.{resetSegmentation}
-use Rattle.base_settings.specs.declared.loop_filter.LoopFilterParams.{LoopFilterParams}
-use Rattle.base_settings.specs.declared.segmentation.SegmentationParams.{SegmentationParams}
+use Rattle.base_loop_filter.specs.LoopFilterParams.{resetFilter}
+use Rattle.base_quantization.specs.QuantizationParams.{defaultQuantization}
+use Rattle.base_segmentation.specs.SegmentationParams.{resetSegmentation}
+use Rattle.base_loop_filter.specs.declared.LoopFilterParams.{LoopFilterParams}
+use Rattle.base_segmentation.specs.declared.SegmentationParams.{SegmentationParams}
 use Rattle.grammar_tables.specs.Tables.{LoopFilterValues, QuantizerValues, SegmentationValues}
 use Rattle.grammar_tables.specs.Reading.{readLoopFilter, readQuantizer, readSegmentation}
 use Rattle.grammar_settings.specs.Settings.{loopFilterOf, quantizerOf, segmentationOf}

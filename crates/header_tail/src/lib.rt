@@ -1,15 +1,15 @@
 // A frame's header from its loop filter on: the settings, the tiles, and the size of the compressed header.
 ghost use mathlib.Core.Path.{_≡_};
-ghost use Rattle.base_bits.specs.Reader.{over};
+ghost use Rattle.base_syntax.specs.Reader.{over};
 ghost use Rattle.header_tail.specs.Settings.{startingFilter, startingSegmentation, keptSettings, SettingsAre};
 ghost use Rattle.header_tail.specs.Closing.{readClosing, closingOf, viewClosing};
 use base_bits::Bits;
 use base_bits::Cursor;
 use base_bits::Next;
 use base_bits::Refusal;
-use base_settings::LoopFilterParams;
-use base_settings::QuantizationParams;
-use base_settings::SegmentationParams;
+use base_loop_filter::LoopFilterParams;
+use base_quantization::QuantizationParams;
+use base_segmentation::SegmentationParams;
 use part_quantization::QuantizerRead;
 use part_tiles::Tiles;
 use part_tiles::TilesRead;

@@ -6,9 +6,9 @@ use mathlib.Core.Bool.{Bool, true, false}
 use mathlib.Core.List.{List}
 use lib.Dec.{leb}
 use Rattle.base_bits.specs.Refusal.{Name, the}
-use Rattle.base_bits.proofs.Exact.{one-of}
+use Rattle.base_syntax.proofs.Exact.{one-of}
 use Rattle.base_shared.specs.Choice.{pickT}
-use Rattle.base_bits.specs.Reader.{Got, got, refused}
+use Rattle.base_syntax.specs.Reader.{Got, got, refused}
 use Rattle.part_coded.specs.declared.Delta.{Delta}
 use Rattle.part_coded.specs.declared.DeltaRead.{DeltaRead}
 use Rattle.part_coded.specs.declared.DeltaRead.the-variants.{Value, Short, TooWide}

@@ -16,8 +16,8 @@ use Rattle.base_bits.specs.declared.Bits.{Bits}
 use Rattle.base_bits.specs.declared.Bits.the-variants.{Value}
 use Rattle.base_bits.specs.declared.Cursor.{Cursor}
 use Rattle.base_bits.specs.Read.{readBitsIf}
-use Rattle.base_bits.specs.Reader.{got, valued}
-use Rattle.base_bits.proofs.Steps.{value-if-lt}
+use Rattle.base_syntax.specs.Reader.{got, valued}
+use Rattle.base_syntax.proofs.Steps.{value-if-lt}
 use Rattle.grammar_settings.specs.Settings.{signed, probOf}
 use Rattle.part_coded.specs.declared.Delta.{Delta}
 use Rattle.part_coded.specs.declared.DeltaRead.{DeltaRead}

@@ -15,9 +15,9 @@ use Rattle.base_bits.specs.declared.Cursor.{Cursor}
 use Rattle.base_bits.specs.declared.Refusal.the-variants.{PastEnd}
 use Rattle.base_bits.specs.Refusal.{item}
 use Rattle.base_bits.specs.Read.{readBits}
-use Rattle.base_bits.specs.Reader.{Read, read, stopped, got, refused, bind, over}
+use Rattle.base_syntax.specs.Reader.{Read, read, stopped, got, refused, bind, over}
 use Rattle.base_bits.proofs.Bits.{the-type}
-use Rattle.base_bits.proofs.Steps.{value-read, short-read}
+use Rattle.base_syntax.proofs.Steps.{value-read, short-read}
 use Rattle.grammar_tables.specs.Reading.{readRun}
 
 -- a loop that has counted k: what is left to read, from p on, and k more gives what the whole gives

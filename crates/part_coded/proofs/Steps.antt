@@ -10,8 +10,8 @@ use denote.Enum.Declared.{tagOf}
 use Rattle.base_bits.specs.declared.Cursor.{Cursor}
 use Rattle.base_bits.specs.declared.Refusal.the-variants.{PastEnd}
 use Rattle.base_bits.specs.Refusal.{Name}
-use Rattle.base_bits.specs.Reader.{Got, Read, refused, bind, over, said}
-use Rattle.base_bits.proofs.Steps.{group-step, group-stop}
+use Rattle.base_syntax.specs.Reader.{Got, Read, refused, bind, over, said}
+use Rattle.base_syntax.proofs.Steps.{group-step, group-stop}
 use Rattle.part_coded.specs.declared.Delta.{Delta}
 use Rattle.part_coded.specs.declared.DeltaRead.{DeltaRead}
 use Rattle.part_coded.specs.declared.DeltaRead.the-variants.{Value, Short, TooWide}

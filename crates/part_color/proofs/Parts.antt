@@ -4,8 +4,8 @@ use Prim.Native.Nat.{ℕ}
 use mathlib.Core.Path.{_≡_}
 use mathlib.Core.List.{List}
 use Rattle.base_bits.specs.Refusal.{the}
-use Rattle.base_bits.specs.Reader.{Read, read, bind, field, fieldIf}
-use Rattle.base_bits.proofs.Binds.{bind-assoc}
+use Rattle.base_syntax.specs.Reader.{Read, read, bind, field, fieldIf}
+use Rattle.base_syntax.proofs.Binds.{bind-assoc}
 use Rattle.grammar_tables.specs.Tables.{ColorValues, deep}
 use Rattle.grammar_tables.specs.Reading.{readColor}
 use Rattle.part_sampling.specs.Sampling.{SamplingValues, readSampling}

@@ -4,7 +4,7 @@ use Prim.Native.Nat.{ℕ, _≤_, _<_}
 use mathlib.Core.Path.{_≡_}
 use mathlib.Core.List.{List}
 use borrow.Author.Tests.{lt-ltb, le-ltb}
-use Rattle.base_bits.specs.Reader.{got, over, groupIf, valued}
+use Rattle.base_syntax.specs.Reader.{got, over, groupIf, valued}
 use Rattle.base_enums.specs.ColorSpace.{colorSpaceOf}
 use Rattle.base_enums.specs.declared.BitDepth.{BitDepth}
 use Rattle.base_enums.specs.declared.ColorSpace.{ColorSpace}

@@ -1,7 +1,7 @@
 -- color_config() (VP9 6.2.2), for a profile.
 -- Assumes nothing.
 use Prim.Native.Nat.{ℕ}
-use Rattle.base_bits.specs.Reader.{Got, got, refused}
+use Rattle.base_syntax.specs.Reader.{Got, got, refused}
 use Rattle.base_bits.specs.declared.Refusal.the-variants.{PastEnd}
 use Rattle.base_enums.specs.ColorSpace.{colorSpaceOf}
 use Rattle.grammar_settings.specs.Enums.{depthOf, rangeOf, subsampling}

@@ -4,7 +4,7 @@ use Prim.Native.Nat.{ℕ}
 use mathlib.Core.Bool.{Bool, true}
 use lib.Dec.{ltb}
 use Rattle.base_shared.specs.Choice.{pick}
-use Rattle.base_bits.specs.Reader.{Reader, groupIf}
+use Rattle.base_syntax.specs.Reader.{Reader, groupIf}
 use Rattle.base_enums.specs.declared.BitDepth.the-variants.{Depth8}
 use Rattle.base_enums.specs.declared.ColorRange.the-variants.{StudioSwing}
 use Rattle.base_enums.specs.declared.ColorSpace.the-variants.{Bt601}

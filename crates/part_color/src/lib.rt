@@ -1,6 +1,6 @@
 // color_config(): depth, colour space, range and subsampling.
 ghost use mathlib.Core.Path.{_≡_};
-ghost use Rattle.base_bits.specs.Reader.{over};
+ghost use Rattle.base_syntax.specs.Reader.{over};
 ghost use Rattle.part_color.specs.Color.{colorOf, viewColor};
 ghost use Rattle.grammar_settings.specs.Enums.{depthOf};
 ghost use Rattle.grammar_tables.specs.Reading.{readColor};

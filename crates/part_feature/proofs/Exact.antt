@@ -3,7 +3,7 @@
 use Prim.Native.Nat.{ℕ}
 use mathlib.Core.Path.{_≡_, sym, _∙_}
 use mathlib.Core.List.{List}
-use Rattle.base_bits.specs.Reader.{Got, got, refused}
+use Rattle.base_syntax.specs.Reader.{Got, got, refused}
 use Rattle.part_feature.specs.declared.Feature.{Feature}
 use Rattle.part_feature.specs.declared.FeatureRead.{FeatureRead}
 use Rattle.part_feature.specs.declared.FeatureRead.the-variants.{Value, Short}

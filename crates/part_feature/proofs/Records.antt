@@ -14,7 +14,7 @@ use Rattle.base_bits.specs.declared.Bits.{Bits}
 use Rattle.base_bits.specs.declared.Bits.the-variants.{Value}
 use Rattle.base_bits.specs.declared.Cursor.{Cursor}
 use Rattle.base_bits.specs.Read.{readBitsIf}
-use Rattle.base_bits.specs.Reader.{got, valued}
+use Rattle.base_syntax.specs.Reader.{got, valued}
 use Rattle.grammar_settings.specs.Settings.{signed}
 use Rattle.part_coded.proofs.Signed.{signed-fits}
 use Rattle.part_feature.specs.Feature.{featureOf}

@@ -16,9 +16,9 @@ use Rattle.base_bits.specs.declared.Cursor.{Cursor}
 use Rattle.base_bits.specs.declared.Refusal.the-variants.{PastEnd}
 use Rattle.base_bits.specs.Refusal.{Name}
 use Rattle.base_bits.specs.Read.{readBitsIf}
-use Rattle.base_bits.specs.Reader.{Got, Read, refused, bind, over, fieldIf, said}
+use Rattle.base_syntax.specs.Reader.{Got, Read, refused, bind, over, fieldIf, said}
 use Rattle.base_bits.proofs.Bits.{the-type}
-use Rattle.base_bits.proofs.Steps.{value-if-lt, step-if, stop-if}
+use Rattle.base_syntax.proofs.Steps.{value-if-lt, step-if, stop-if}
 use Rattle.grammar_tables.specs.Tables.{featureBits}
 use Rattle.grammar_tables.proofs.Laws.{bits-small}
 

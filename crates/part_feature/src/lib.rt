@@ -5,7 +5,7 @@ ghost use Rattle.part_feature.specs.Feature.{FeatureIs};
 ghost use Rattle.grammar_tables.specs.Tables.{featureBits, featureSigned};
 use base_bits::Bits;
 use base_bits::Cursor;
-use base_settings::SegmentationParams;
+use base_segmentation::SegmentationParams;
 
 // How wide each feature's value is, and whether a sign follows it: quantizer, filter level, reference, skip.
 const SEGMENTATION_FEATURE_BITS: [usize; SegmentationParams::SEG_LVL_MAX] = [8, 6, 2, 0];

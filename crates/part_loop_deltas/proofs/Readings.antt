@@ -5,9 +5,9 @@ use mathlib.Core.Path.{_≡_, refl}
 use mathlib.Core.List.{List}
 use lib.Dec.{eqb}
 use borrow.Author.Tests.{eq-eqb, ne-eqb}
-use Rattle.base_bits.specs.Reader.{Got, Read, read, stopped, got, bind, over, Reader, groupIf, said}
-use Rattle.base_bits.specs.Many.{many}
-use Rattle.base_bits.proofs.Steps.{tail}
+use Rattle.base_syntax.specs.Reader.{Got, Read, read, stopped, got, bind, over, Reader, groupIf, said}
+use Rattle.base_syntax.specs.Many.{many}
+use Rattle.base_syntax.proofs.Steps.{tail}
 
 regrouped : {A B C : Type 0} (m : Read A) (k : A → ℕ → Read B) (l : B → ℕ → Read C) → bind (bind m k) l ≡ bind m (λ a q. bind (k a q) l)
 regrouped (read a q) k l = refl

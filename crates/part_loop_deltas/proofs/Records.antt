@@ -9,12 +9,12 @@ use mir.Val.{SFits, toZ, ofZ}
 use mir.Facts.{toZ-ofZ}
 use mir.Syntax.{w8}
 use borrow.Author.Tests.{eq-eqb, ne-eqb}
-use Rattle.base_bits.specs.Reader.{got, valued}
-use Rattle.base_bits.specs.Many.{Times}
+use Rattle.base_syntax.specs.Reader.{got, valued}
+use Rattle.base_syntax.specs.Many.{Times}
 use Rattle.part_coded.specs.declared.Delta.{Delta}
 use Rattle.part_coded.specs.Delta.{deltaOf}
 use Rattle.grammar_tables.specs.Tables.{DeltaValues}
-use Rattle.base_settings.specs.declared.loop_filter.LoopFilterParams.{LoopFilterParams}
+use Rattle.base_loop_filter.specs.declared.LoopFilterParams.{LoopFilterParams}
 use Rattle.part_loop_deltas.specs.declared.RefDeltas.{RefDeltas}
 use Rattle.part_loop_deltas.specs.declared.ModeDeltas.{ModeDeltas}
 use Rattle.part_loop_deltas.specs.LoopDeltas.{refDeltasOf, modeDeltasOf, deltaMoved, withFlags, withDeltas, loopDeltasOf}

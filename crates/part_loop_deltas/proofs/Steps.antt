@@ -11,11 +11,11 @@ use Rattle.base_bits.specs.declared.Cursor.{Cursor}
 use Rattle.base_bits.specs.declared.Next.the-variants.{At, Refused}
 use Rattle.base_bits.specs.declared.Refusal.{Refusal}
 use Rattle.base_bits.specs.declared.Refusal.the-variants.{PastEnd}
-use Rattle.base_bits.specs.Reader.{Got, Read, refused, bind, over, groupIf, said}
-use Rattle.base_bits.specs.Many.{Times}
-use Rattle.base_bits.proofs.Steps.{group-step, group-stop, gave, lacked}
+use Rattle.base_syntax.specs.Reader.{Got, Read, refused, bind, over, groupIf, said}
+use Rattle.base_syntax.specs.Many.{Times}
+use Rattle.base_syntax.proofs.Steps.{group-step, group-stop, gave, lacked}
 use Rattle.grammar_tables.specs.Tables.{DeltaValues}
-use Rattle.base_settings.specs.declared.loop_filter.LoopFilterParams.{LoopFilterParams}
+use Rattle.base_loop_filter.specs.declared.LoopFilterParams.{LoopFilterParams}
 use Rattle.part_loop_deltas.specs.declared.RefDeltas.{RefDeltas}
 use Rattle.part_loop_deltas.specs.declared.RefDeltasRead.{RefDeltasRead}
 use Rattle.part_loop_deltas.specs.declared.RefDeltasRead.the-variants.{Value as Refs, Short as NoRefs}

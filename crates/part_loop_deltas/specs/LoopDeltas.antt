@@ -6,14 +6,14 @@ use mathlib.Core.List.{List, [], _∷_}
 use lib.IntN.{ℤ, pos}
 use lib.ListN.{getD}
 use Rattle.base_shared.specs.Choice.{pick}
-use Rattle.base_bits.specs.Syntax.{flag}
-use Rattle.base_bits.specs.Reader.{Got, got, refused, viewNext, _>>=_, field, groupIf, Reader, give}
-use Rattle.base_bits.specs.Many.{Times}
+use Rattle.base_syntax.specs.Syntax.{flag}
+use Rattle.base_syntax.specs.Reader.{Got, got, refused, viewNext, _>>=_, field, groupIf, Reader, give}
+use Rattle.base_syntax.specs.Many.{Times}
 use Rattle.base_bits.specs.declared.Refusal.the-variants.{PastEnd}
 use Rattle.part_coded.specs.declared.Delta.{Delta}
 use Rattle.part_coded.specs.Delta.{deltaOf}
 use Rattle.grammar_tables.specs.Tables.{DeltaValues}
-use Rattle.base_settings.specs.declared.loop_filter.LoopFilterParams.{LoopFilterParams}
+use Rattle.base_loop_filter.specs.declared.LoopFilterParams.{LoopFilterParams}
 use Rattle.part_loop_deltas.specs.declared.LoopFilterRead.{LoopFilterRead}
 use Rattle.part_loop_deltas.specs.declared.RefDeltas.{RefDeltas}
 use Rattle.part_loop_deltas.specs.declared.RefDeltasRead.{RefDeltasRead}

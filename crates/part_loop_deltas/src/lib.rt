@@ -1,13 +1,13 @@
 // The deltas of loop_filter_params(): what references and modes add to the level.
 ghost use mathlib.Core.Path.{_≡_};
-ghost use Rattle.base_bits.specs.Reader.{over};
+ghost use Rattle.base_syntax.specs.Reader.{over};
 ghost use Rattle.part_loop_deltas.specs.LoopDeltas.{refDeltasOf, modeDeltasOf, deltaMoved, movedRefs, movedModes, withDeltas, loopDeltasOf, viewRefDeltas, viewModeDeltas, viewLoopFilter, readLoopDeltas};
 ghost use Rattle.grammar_tables.specs.Reading.{readRefDeltas, readModeDeltas};
 use base_bits::Bits;
 use base_bits::Cursor;
 use base_bits::Next;
 use base_bits::Refusal;
-use base_settings::LoopFilterParams;
+use base_loop_filter::LoopFilterParams;
 use part_coded::Delta;
 use part_coded::DeltaRead;
 

@@ -5,8 +5,8 @@ use mathlib.Core.Path.{_≡_}
 use mathlib.Core.List.{List}
 use Rattle.base_bits.specs.declared.Next.the-variants.{Refused}
 use Rattle.base_bits.specs.declared.Refusal.{Refusal}
-use Rattle.base_bits.specs.Reader.{over}
-use Rattle.base_settings.specs.declared.loop_filter.LoopFilterParams.{LoopFilterParams}
+use Rattle.base_syntax.specs.Reader.{over}
+use Rattle.base_loop_filter.specs.declared.LoopFilterParams.{LoopFilterParams}
 use Rattle.part_loop_deltas.specs.declared.LoopFilterRead.{LoopFilterRead}
 use Rattle.part_loop_deltas.specs.LoopDeltas.{viewLoopFilter}
 use Rattle.grammar_tables.specs.Reading.{readLoopFilter}

@@ -5,9 +5,9 @@ use Prim.Native.Nat.{ℕ}
 use mathlib.Core.Path.{_≡_}
 use mathlib.Core.List.{List}
 use Rattle.base_bits.specs.Refusal.{the}
-use Rattle.base_bits.specs.Syntax.{flag}
-use Rattle.base_bits.specs.Reader.{Read, read, bind, field, fieldIf, groupIf}
-use Rattle.base_bits.proofs.Binds.{bind-assoc, bind-same, split}
+use Rattle.base_syntax.specs.Syntax.{flag}
+use Rattle.base_syntax.specs.Reader.{Read, read, bind, field, fieldIf, groupIf}
+use Rattle.base_syntax.proofs.Binds.{bind-assoc, bind-same, split}
 use Rattle.grammar_tables.specs.Tables.{LoopFilterValues}
 use Rattle.grammar_tables.specs.Reading.{readLoopFilter}
 use Rattle.part_loop_deltas.specs.LoopDeltas.{LoopDeltasValues, noLoopDeltas, readLoopDeltas}

@@ -13,13 +13,13 @@ use Rattle.base_bits.specs.declared.Bits.{Bits}
 use Rattle.base_bits.specs.declared.Bits.the-variants.{Value}
 use Rattle.base_bits.specs.declared.Cursor.{Cursor}
 use Rattle.base_bits.specs.Read.{readBits}
-use Rattle.base_bits.specs.Reader.{got, valued}
-use Rattle.base_bits.proofs.Steps.{value-lt}
-use Rattle.base_settings.specs.declared.loop_filter.LoopFilterParams.{LoopFilterParams}
+use Rattle.base_syntax.specs.Reader.{got, valued}
+use Rattle.base_syntax.proofs.Steps.{value-lt}
+use Rattle.base_loop_filter.specs.declared.LoopFilterParams.{LoopFilterParams}
 use Rattle.part_loop_deltas.specs.LoopDeltas.{withFlags, loopDeltasOf, withDeltas, movedRefs, movedModes, deltaMoved, refDeltasOf, modeDeltasOf, LoopDeltasValues, noLoopDeltas}
 use Rattle.grammar_settings.specs.Settings.{loopFilterOf, deltaValue}
 use mathlib.Core.Bool.{Bool, true, false}
-use Rattle.base_bits.specs.Syntax.{flag}
+use Rattle.base_syntax.specs.Syntax.{flag}
 use Rattle.part_coded.specs.Delta.{deltaOf}
 use Rattle.part_loop_filter.proofs.Parts.{flatFilter}
 

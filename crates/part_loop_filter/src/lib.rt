@@ -1,6 +1,6 @@
 // loop_filter_params().
 ghost use mathlib.Core.Path.{_≡_};
-ghost use Rattle.base_bits.specs.Reader.{over};
+ghost use Rattle.base_syntax.specs.Reader.{over};
 ghost use Rattle.part_loop_deltas.specs.LoopDeltas.{viewLoopFilter};
 ghost use Rattle.grammar_tables.specs.Reading.{readLoopFilter};
 ghost use Rattle.grammar_settings.specs.Settings.{loopFilterOf};
@@ -9,7 +9,7 @@ use base_bits::Bits;
 use base_bits::Cursor;
 use base_bits::Next;
 use base_bits::Refusal;
-use base_settings::LoopFilterParams;
+use base_loop_filter::LoopFilterParams;
 use part_loop_deltas::LoopFilterRead;
 
 pub fn parse_loop_filter_params(s: &[u8], c: Cursor, old: LoopFilterParams) -> LoopFilterRead

@@ -1,8 +1,8 @@
 -- Any two answers that meet the promise of a public function are one.
 -- Assumes nothing.
 use mathlib.Core.Path.{_≡_, refl}
-use Rattle.base_bits.specs.Reader.{Got, got, refused}
-use Rattle.base_bits.proofs.Exact.{one-of}
+use Rattle.base_syntax.specs.Reader.{Got, got, refused}
+use Rattle.base_syntax.proofs.Exact.{one-of}
 use Rattle.part_motion.specs.declared.Motion.{Motion}
 use Rattle.part_motion.specs.declared.MotionRead.{MotionRead}
 use Rattle.part_motion.specs.declared.MotionRead.the-variants.{Value as Moves, Short}

@@ -4,7 +4,7 @@ use Prim.Native.Nat.{ℕ}
 use mathlib.Core.Path.{_≡_}
 use lib.Dec.{eqb}
 use borrow.Author.Tests.{eq-eqb, ne-eqb}
-use Rattle.base_bits.specs.Reader.{got, valued}
+use Rattle.base_syntax.specs.Reader.{got, valued}
 use Rattle.base_enums.specs.InterpolationFilter.{filterOfLiteral}
 use Rattle.base_enums.specs.declared.InterpolationFilter.{InterpolationFilter}
 use Rattle.base_enums.specs.declared.InterpolationFilter.the-variants.{Switchable}

@@ -2,8 +2,8 @@
 -- Assumes nothing.
 use Prim.Native.Nat.{ℕ}
 use Rattle.base_bits.specs.Refusal.{the}
-use Rattle.base_bits.specs.Syntax.{flag}
-use Rattle.base_bits.specs.Reader.{Got, got, refused, Reader, give, field, _>>=_}
+use Rattle.base_syntax.specs.Syntax.{flag}
+use Rattle.base_syntax.specs.Reader.{Got, got, refused, Reader, give, field, _>>=_}
 use Rattle.base_bits.specs.declared.Refusal.the-variants.{PastEnd}
 use Rattle.part_motion.specs.Filter.{FilterValues, noFilter, readFilter, filterOf}
 use Rattle.part_motion.specs.declared.Motion.{Motion}

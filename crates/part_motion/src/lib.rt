@@ -1,6 +1,6 @@
 // How an inter frame moves what it refers to: allow_high_precision_mv and read_interpolation_filter().
 ghost use mathlib.Core.Path.{_≡_};
-ghost use Rattle.base_bits.specs.Reader.{over};
+ghost use Rattle.base_syntax.specs.Reader.{over};
 ghost use Rattle.part_motion.specs.Filter.{readFilter, filterOf, viewFilter};
 ghost use Rattle.part_motion.specs.Motion.{readMotion, motionOf, viewMotion};
 use base_bits::Bits;

@@ -5,8 +5,8 @@ use mathlib.Core.Path.{_≡_}
 use mathlib.Core.List.{List}
 use Rattle.base_bits.specs.declared.Cursor.{Cursor}
 use Rattle.base_bits.specs.declared.Refusal.{Refusal}
-use Rattle.base_bits.specs.Reader.{Got, Read, refused, bind, over, said}
-use Rattle.base_bits.proofs.Steps.{group-step, group-stop}
+use Rattle.base_syntax.specs.Reader.{Got, Read, refused, bind, over, said}
+use Rattle.base_syntax.proofs.Steps.{group-step, group-stop}
 use Rattle.part_opening.specs.declared.ProfileRead.{ProfileRead}
 use Rattle.part_opening.specs.declared.ProfileRead.the-variants.{Value as Profile, Refused as NoProfile}
 use Rattle.part_opening.specs.declared.SyncRead.{SyncRead}

@@ -2,8 +2,8 @@
 -- Assumes nothing.
 use Prim.Native.Nat.{ℕ}
 use Rattle.base_bits.specs.Refusal.{the}
-use Rattle.base_bits.specs.Syntax.{flag}
-use Rattle.base_bits.specs.Reader.{Got, got, refused, Reader, give, field, fieldIf, _>>=_}
+use Rattle.base_syntax.specs.Syntax.{flag}
+use Rattle.base_syntax.specs.Reader.{Got, got, refused, Reader, give, field, fieldIf, _>>=_}
 use Rattle.part_opening.specs.Profile.{ProfileValues, readProfile, openingProfile}
 use Rattle.part_opening.specs.declared.Opening.{Opening}
 use Rattle.part_opening.specs.declared.OpeningRead.{OpeningRead}

@@ -3,7 +3,7 @@
 use Prim.Native.Nat.{ℕ, _+_, _*_}
 use lib.Dec.{eqb}
 use Rattle.base_bits.specs.Refusal.{the, frameMarker}
-use Rattle.base_bits.specs.Reader.{Got, got, refused, Reader, give, field, must, fieldIf, _>>=_}
+use Rattle.base_syntax.specs.Reader.{Got, got, refused, Reader, give, field, must, fieldIf, _>>=_}
 use Rattle.part_opening.specs.declared.ProfileRead.{ProfileRead}
 use Rattle.part_opening.specs.declared.ProfileRead.the-variants.{Value, Refused}
 

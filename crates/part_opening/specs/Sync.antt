@@ -1,7 +1,7 @@
 -- frame_sync_code() (VP9 6.2.1): one field.
 -- Assumes nothing.
 use Prim.Native.Nat.{ℕ}
-use Rattle.base_bits.specs.Reader.{Got, got, refused}
+use Rattle.base_syntax.specs.Reader.{Got, got, refused}
 use Rattle.part_opening.specs.declared.SyncRead.{SyncRead}
 use Rattle.part_opening.specs.declared.SyncRead.the-variants.{Value, Refused}
 

@@ -1,6 +1,6 @@
 // How a header starts, marker and profile and the frame that is shown again, and the sync code.
 ghost use mathlib.Core.Path.{_≡_};
-ghost use Rattle.base_bits.specs.Reader.{over};
+ghost use Rattle.base_syntax.specs.Reader.{over};
 ghost use Rattle.part_opening.specs.Profile.{readProfile, openingProfile, viewProfile};
 ghost use Rattle.part_opening.specs.Opening.{readOpening, openingOf, viewOpening};
 ghost use Rattle.part_opening.specs.Sync.{syncOf, viewSync};

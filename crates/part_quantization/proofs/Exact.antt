@@ -3,8 +3,8 @@
 use Prim.Native.Nat.{ℕ}
 use mathlib.Core.Path.{_≡_, sym, _∙_}
 use mathlib.Core.List.{List}
-use Rattle.base_bits.specs.Reader.{Got, got, refused, over}
-use Rattle.base_settings.specs.declared.quantization.QuantizationParams.{QuantizationParams}
+use Rattle.base_syntax.specs.Reader.{Got, got, refused, over}
+use Rattle.base_quantization.specs.declared.QuantizationParams.{QuantizationParams}
 use Rattle.part_quantization.specs.declared.QuantizerRead.{QuantizerRead}
 use Rattle.part_quantization.specs.declared.QuantizerRead.the-variants.{Value as Quantizer, Short as NoQuantizer}
 use Rattle.part_quantization.specs.Quantizer.{viewQuantizer}

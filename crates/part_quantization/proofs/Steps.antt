@@ -9,10 +9,10 @@ use types.Run.{OneOf}
 use denote.Enum.Declared.{tagOf}
 use Rattle.base_bits.specs.declared.Cursor.{Cursor}
 use Rattle.base_bits.specs.declared.Refusal.the-variants.{PastEnd}
-use Rattle.base_bits.specs.Reader.{Got, Read, read, stopped, refused, bind, over, said}
-use Rattle.base_bits.proofs.Steps.{group-step, group-stop}
+use Rattle.base_syntax.specs.Reader.{Got, Read, read, stopped, refused, bind, over, said}
+use Rattle.base_syntax.proofs.Steps.{group-step, group-stop}
 use Rattle.grammar_tables.specs.Tables.{DeltaValues, QuantizerValues}
-use Rattle.base_settings.specs.declared.quantization.QuantizationParams.{QuantizationParams}
+use Rattle.base_quantization.specs.declared.QuantizationParams.{QuantizationParams}
 use Rattle.part_quantization.specs.declared.DeltaQRead.{DeltaQRead}
 use Rattle.part_quantization.specs.declared.DeltaQRead.the-variants.{Value as DeltaQ, Short as NoDeltaQ}
 use Rattle.part_quantization.specs.declared.QuantizerRead.{QuantizerRead}

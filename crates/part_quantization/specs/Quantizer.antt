@@ -4,9 +4,9 @@ use Prim.Native.Nat.{ℕ}
 use mathlib.Core.Path.{_≡_}
 use mathlib.Core.List.{List}
 use lib.IntN.{ℤ}
-use Rattle.base_bits.specs.Reader.{Got, got, refused, over}
+use Rattle.base_syntax.specs.Reader.{Got, got, refused, over}
 use Rattle.base_bits.specs.declared.Refusal.the-variants.{PastEnd}
-use Rattle.base_settings.specs.declared.quantization.QuantizationParams.{QuantizationParams}
+use Rattle.base_quantization.specs.declared.QuantizationParams.{QuantizationParams}
 use Rattle.part_quantization.specs.declared.DeltaQRead.{DeltaQRead}
 use Rattle.part_quantization.specs.declared.DeltaQRead.the-variants.{Value as Coded, Short as Cut}
 use Rattle.part_quantization.specs.declared.QuantizerRead.{QuantizerRead}

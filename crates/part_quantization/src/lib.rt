@@ -1,12 +1,12 @@
 // quantization_params(): the base and the three deltas.
 ghost use mathlib.Core.Path.{_≡_};
-ghost use Rattle.base_bits.specs.Reader.{over};
+ghost use Rattle.base_syntax.specs.Reader.{over};
 ghost use Rattle.part_quantization.specs.Quantizer.{viewQuantizer, DeltaQIs};
 ghost use Rattle.grammar_tables.specs.Reading.{readQuantizer};
 ghost use Rattle.grammar_settings.specs.Settings.{quantizerOf, lossless};
 use base_bits::Bits;
 use base_bits::Cursor;
-use base_settings::QuantizationParams;
+use base_quantization::QuantizationParams;
 use part_coded::DeltaRead;
 
 enum DeltaQRead {

@@ -1,8 +1,8 @@
 -- Any two answers that meet the promise of a reading function are one.
 -- Assumes nothing.
 use mathlib.Core.Path.{_≡_, refl}
-use Rattle.base_bits.specs.Reader.{Got, got, refused}
-use Rattle.base_bits.proofs.Exact.{one-of}
+use Rattle.base_syntax.specs.Reader.{Got, got, refused}
+use Rattle.base_syntax.proofs.Exact.{one-of}
 use Rattle.part_refs.specs.declared.Sources.{Sources}
 use Rattle.part_refs.specs.declared.SourcesRead.{SourcesRead}
 use Rattle.part_refs.specs.declared.SourcesRead.the-variants.{Value as Names, Short as NamesNone}

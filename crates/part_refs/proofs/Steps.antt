@@ -5,8 +5,8 @@ use mathlib.Core.Path.{_≡_}
 use mathlib.Core.List.{List}
 use Rattle.base_bits.specs.declared.Cursor.{Cursor}
 use Rattle.base_bits.specs.declared.Refusal.the-variants.{PastEnd}
-use Rattle.base_bits.specs.Reader.{Got, Read, refused, bind, over, said}
-use Rattle.base_bits.proofs.Steps.{group-step, group-stop}
+use Rattle.base_syntax.specs.Reader.{Got, Read, refused, bind, over, said}
+use Rattle.base_syntax.proofs.Steps.{group-step, group-stop}
 use Rattle.part_refs.specs.declared.Ref.{Ref}
 use Rattle.part_refs.specs.declared.RefRead.{RefRead}
 use Rattle.part_refs.specs.declared.RefRead.the-variants.{Value as One, Short as NoRef}

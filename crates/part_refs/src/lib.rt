@@ -1,6 +1,6 @@
 // The references of an inter frame, and the slots that it writes.
 ghost use mathlib.Core.Path.{_≡_};
-ghost use Rattle.base_bits.specs.Reader.{over};
+ghost use Rattle.base_syntax.specs.Reader.{over};
 ghost use Rattle.part_refs.specs.Refs.{RefIs, refsOf, viewRefs};
 ghost use Rattle.grammar_tables.specs.Reading.{readRefs};
 ghost use Rattle.part_refs.specs.Sources.{readSources, sourcesOf, viewSources};

@@ -4,7 +4,7 @@ use Prim.Native.Nat.{ℕ, _≤_, _<_}
 use mathlib.Core.Path.{_≡_}
 use lib.Dec.{eqb, leb}
 use borrow.Author.Tests.{eq-eqb, ne-eqb, le-leb, lt-leb}
-use Rattle.base_bits.specs.Reader.{got, valued}
+use Rattle.base_syntax.specs.Reader.{got, valued}
 use Rattle.base_shared.specs.Choice.{pick}
 use Rattle.part_sampling.specs.declared.Sampling.{Sampling}
 use Rattle.part_sampling.specs.Sampling.{samplingOf}

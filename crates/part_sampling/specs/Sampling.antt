@@ -3,7 +3,7 @@
 -- Assumes nothing.
 use Prim.Native.Nat.{ℕ}
 use mathlib.Core.Bool.{Bool, not, _&&_}
-use Rattle.base_bits.specs.Reader.{Got, got, refused, _>>=_, fieldIf, Reader, give}
+use Rattle.base_syntax.specs.Reader.{Got, got, refused, _>>=_, fieldIf, Reader, give}
 use Rattle.base_bits.specs.declared.Refusal.the-variants.{PastEnd}
 use Rattle.part_sampling.specs.declared.Sampling.{Sampling}
 use Rattle.part_sampling.specs.declared.SamplingRead.{SamplingRead}

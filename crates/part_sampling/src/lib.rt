@@ -1,6 +1,6 @@
 // What color_config() has after color_space: range and subsampling.
 ghost use mathlib.Core.Path.{_≡_};
-ghost use Rattle.base_bits.specs.Reader.{over};
+ghost use Rattle.base_syntax.specs.Reader.{over};
 ghost use Rattle.part_sampling.specs.Sampling.{samplingOf, viewSampling, readSampling};
 ghost use Rattle.grammar_settings.specs.Enums.{rangeOf, subsampling};
 use base_bits::Bits;

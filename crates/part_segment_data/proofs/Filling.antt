@@ -12,11 +12,11 @@ use mir.Facts.{toZ-ofZ}
 use mir.Syntax.{w16}
 use Rattle.base_bits.specs.declared.Cursor.{Cursor}
 use Rattle.base_bits.specs.declared.Refusal.the-variants.{PastEnd}
-use Rattle.base_bits.specs.Reader.{got, refused, over, Reader}
+use Rattle.base_syntax.specs.Reader.{got, refused, over, Reader}
 use Rattle.part_feature.specs.declared.Feature.{Feature}
 use Rattle.part_feature.specs.declared.FeatureRead.{FeatureRead}
 use Rattle.part_feature.specs.declared.FeatureRead.the-variants.{Value, Short}
-use Rattle.base_bits.specs.Many.{eachOf}
+use Rattle.base_syntax.specs.Many.{eachOf}
 use Rattle.part_feature.specs.Feature.{featureOf, FeatureIs}
 use Rattle.grammar_tables.specs.Tables.{FeatureValues}
 use Rattle.grammar_tables.specs.Reading.{readFeature, readFeatures}

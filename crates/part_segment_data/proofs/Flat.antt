@@ -5,9 +5,9 @@ use mathlib.Core.Path.{_≡_, refl, sym, _∙_}
 use mathlib.Core.List.{List, [], _++_, append-nil, append-assoc}
 use native.Mathlib.Nat.{add-zero, zero-add}
 use native.Mathlib.Omega.{arith}
-use Rattle.base_bits.specs.Reader.{Got, got, refused, over, Reader}
-use Rattle.base_bits.specs.Many.{Times, many, folds, eachOf}
-use Rattle.base_bits.proofs.Many.{turn, turn-stop}
+use Rattle.base_syntax.specs.Reader.{Got, got, refused, over, Reader}
+use Rattle.base_syntax.specs.Many.{Times, many, folds, eachOf}
+use Rattle.base_syntax.proofs.Many.{turn, turn-stop}
 use Rattle.grammar_tables.specs.Tables.{FeatureValues}
 use Rattle.grammar_settings.specs.Settings.{featureRow}
 use Rattle.part_segment_map.proofs.Rows.{grown, grown-each, over-same}

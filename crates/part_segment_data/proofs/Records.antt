@@ -4,8 +4,8 @@ use Prim.Native.Nat.{ℕ}
 use mathlib.Core.Path.{_≡_}
 use lib.Dec.{eqb}
 use borrow.Author.Tests.{eq-eqb, ne-eqb}
-use Rattle.base_bits.specs.Reader.{got, valued}
-use Rattle.base_settings.specs.declared.segmentation.SegmentationParams.{SegmentationParams}
+use Rattle.base_syntax.specs.Reader.{got, valued}
+use Rattle.base_segmentation.specs.declared.SegmentationParams.{SegmentationParams}
 use Rattle.part_segment_data.specs.declared.Features.{Features}
 use Rattle.part_segment_data.specs.Features.{FeaturesValues, featureRows}
 use Rattle.part_segment_data.specs.Data.{withData, dataOf}

@@ -6,16 +6,16 @@ use mathlib.Core.Path.{_≡_}
 use mathlib.Core.List.{List}
 use lib.IntN.{ℤ}
 use Rattle.base_shared.specs.Choice.{pick}
-use Rattle.base_bits.specs.Syntax.{flag}
-use Rattle.base_bits.specs.Reader.{over, _>>=_, field, fieldIf, groupIf, Reader, give}
-use Rattle.base_settings.specs.declared.segmentation.SegmentationParams.{SegmentationParams}
+use Rattle.base_syntax.specs.Syntax.{flag}
+use Rattle.base_syntax.specs.Reader.{over, _>>=_, field, fieldIf, groupIf, Reader, give}
+use Rattle.base_segmentation.specs.declared.SegmentationParams.{SegmentationParams}
 use Rattle.part_segment_map.specs.declared.SegmentationRead.{SegmentationRead}
 use Rattle.part_segment_map.specs.Answer.{viewSegmentation, SegmentationKept}
 use Rattle.part_segment_data.specs.Features.{featureRows}
 use Rattle.grammar_tables.specs.Tables.{FeatureValues}
 use Rattle.grammar_tables.specs.Reading.{noFeatures, readFeatures}
 use Rattle.base_bits.specs.Refusal.{the}
-use Rattle.base_bits.specs.Many.{Times}
+use Rattle.base_syntax.specs.Many.{Times}
 
 pub record DataValues : Type 0 where
   pub update-data : ℕ

@@ -1,7 +1,7 @@
 -- The features of segmentation_params() (VP9 6.2.11): 8 segments by 4 features.
 -- Assumes nothing.
-use Rattle.base_bits.specs.Reader.{Got, viewNext}
-use Rattle.base_bits.specs.Many.{Times}
+use Rattle.base_syntax.specs.Reader.{Got, viewNext}
+use Rattle.base_syntax.specs.Many.{Times}
 use Rattle.grammar_tables.specs.Tables.{FeatureValues}
 use Rattle.grammar_settings.specs.Settings.{enabledOf, dataValue, featureRow}
 use Rattle.part_segment_data.specs.declared.Features.{Features}

@@ -1,6 +1,6 @@
 // The features' part of segmentation_params().
 ghost use mathlib.Core.Path.{_≡_};
-ghost use Rattle.base_bits.specs.Reader.{over};
+ghost use Rattle.base_syntax.specs.Reader.{over};
 ghost use Rattle.part_segment_data.specs.Features.{featureRows, viewFeatures};
 ghost use Rattle.grammar_tables.specs.Reading.{readFeatures};
 ghost use Rattle.part_segment_data.specs.Data.{DataIs};
@@ -8,7 +8,7 @@ use base_bits::Bits;
 use base_bits::Cursor;
 use base_bits::Next;
 use base_bits::Refusal;
-use base_settings::SegmentationParams;
+use base_segmentation::SegmentationParams;
 use part_feature::FeatureRead;
 use part_segment_map::SegmentationRead;
 

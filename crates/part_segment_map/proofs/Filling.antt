@@ -9,7 +9,7 @@ use lib.ListN.{length, set, replicate, length-set}
 use Rattle.base_bits.specs.declared.Cursor.{Cursor}
 use Rattle.base_bits.specs.declared.Refusal.the-variants.{PastEnd}
 use Rattle.base_bits.specs.Refusal.{item}
-use Rattle.base_bits.specs.Reader.{got, refused, over, Reader}
+use Rattle.base_syntax.specs.Reader.{got, refused, over, Reader}
 use Rattle.part_coded.specs.declared.ProbRead.{ProbRead}
 use Rattle.part_coded.specs.declared.ProbRead.the-variants.{Value as Prob, Short as NoProb}
 use Rattle.part_coded.specs.Prob.{ProbIs}

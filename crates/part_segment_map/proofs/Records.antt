@@ -10,12 +10,12 @@ use borrow.Author.Tests.{eq-eqb, ne-eqb}
 use Rattle.base_bits.specs.declared.Cursor.{Cursor}
 use Rattle.base_bits.specs.declared.Next.{Next}
 use Rattle.base_bits.specs.declared.Next.the-variants.{At, Refused}
-use Rattle.base_bits.specs.Reader.{got, groupIf, valued}
+use Rattle.base_syntax.specs.Reader.{got, groupIf, valued}
 use Rattle.grammar_tables.specs.Reading.{noProb}
 use Rattle.grammar_settings.specs.Settings.{probOf}
-use Rattle.base_settings.specs.declared.segmentation.SegmentationParams.{SegmentationParams}
+use Rattle.base_segmentation.specs.declared.SegmentationParams.{SegmentationParams}
 use Rattle.part_segment_map.specs.declared.ProbsRead.{ProbsRead}
-use Rattle.base_bits.specs.Many.{eachOf}
+use Rattle.base_syntax.specs.Many.{eachOf}
 use Rattle.part_segment_map.specs.Probs.{ProbsValues, probsOf, ProbsAre, ProbsAreIf}
 use Rattle.part_segment_map.specs.Map.{withMap, mapOf}
 use Rattle.part_segment_map.specs.Answer.{SegmentationKept}

@@ -8,9 +8,9 @@ use native.Mathlib.Omega.{arith}
 use lib.ListN.{length, getD, take, drop, set, replicate, take-append-drop}
 use lib.Seq.{take-suc-set, drop-set-lt, drop-drop}
 use Rattle.base_bits.specs.declared.Refusal.{Refusal}
-use Rattle.base_bits.specs.Reader.{Read, read, stopped, got, refused, over, Reader}
-use Rattle.base_bits.specs.Many.{Times, many, folds, times, eachOf}
-use Rattle.base_bits.proofs.Many.{Looped, loop-start, loop-turn, loop-stop, loop-end}
+use Rattle.base_syntax.specs.Reader.{Read, read, stopped, got, refused, over, Reader}
+use Rattle.base_syntax.specs.Many.{Times, many, folds, times, eachOf}
+use Rattle.base_syntax.proofs.Many.{Looped, loop-start, loop-turn, loop-stop, loop-end}
 
 -- an answer seen through another record: a value, a refusal, and two values at once
 pub seen : {A B C : Type 0} (g : B → C) (f : A → B) (m : Read A) {b : B} {p : ℕ} → got b p ≡ over f m → got (g b) p ≡ over (λ a. g (f a)) m

@@ -11,8 +11,8 @@ use Rattle.base_bits.specs.declared.Cursor.{Cursor}
 use Rattle.base_bits.specs.declared.Next.{Next}
 use Rattle.base_bits.specs.declared.Next.the-variants.{At, Refused}
 use Rattle.base_bits.specs.declared.Refusal.{Refusal}
-use Rattle.base_bits.specs.Reader.{Got, Read, bind, over, Reader, groupIf, viewNext, said}
-use Rattle.base_bits.proofs.Steps.{group-step, group-stop, gave, lacked}
+use Rattle.base_syntax.specs.Reader.{Got, Read, bind, over, Reader, groupIf, viewNext, said}
+use Rattle.base_syntax.proofs.Steps.{group-step, group-stop, gave, lacked}
 use Rattle.part_segment_map.specs.declared.ProbsRead.{ProbsRead}
 use Rattle.part_segment_map.specs.Probs.{ProbsValues, probsOf, ProbsAreIf}
 use Rattle.grammar_tables.specs.Reading.{noProbs, readProbs}

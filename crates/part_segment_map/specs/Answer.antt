@@ -1,10 +1,10 @@
 -- What the code answers where it reads a part of segmentation_params(): the settings, and the place beside them.
 -- Assumes nothing.
 use mathlib.Core.Path.{_≡_}
-use Rattle.base_bits.specs.Reader.{Got, viewNext}
+use Rattle.base_syntax.specs.Reader.{Got, viewNext}
 use Rattle.base_bits.specs.declared.Next.{Next}
 use Rattle.base_bits.specs.declared.Next.the-variants.{At, Refused}
-use Rattle.base_settings.specs.declared.segmentation.SegmentationParams.{SegmentationParams}
+use Rattle.base_segmentation.specs.declared.SegmentationParams.{SegmentationParams}
 use Rattle.part_segment_map.specs.declared.SegmentationRead.{SegmentationRead}
 
 abbrev pub viewSegmentation : SegmentationRead → Got SegmentationParams

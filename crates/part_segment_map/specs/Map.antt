@@ -5,13 +5,13 @@ use mathlib.Core.Bool.{Bool, true, false}
 use mathlib.Core.Path.{_≡_}
 use mathlib.Core.List.{List}
 use Rattle.base_shared.specs.Choice.{pick}
-use Rattle.base_bits.specs.Syntax.{flag}
-use Rattle.base_bits.specs.Reader.{over, _>>=_, field, fieldIf, groupIf, Reader, give}
+use Rattle.base_syntax.specs.Syntax.{flag}
+use Rattle.base_syntax.specs.Reader.{over, _>>=_, field, fieldIf, groupIf, Reader, give}
 use Rattle.grammar_settings.specs.Settings.{probOf}
-use Rattle.base_settings.specs.declared.segmentation.SegmentationParams.{SegmentationParams}
+use Rattle.base_segmentation.specs.declared.SegmentationParams.{SegmentationParams}
 use Rattle.part_segment_map.specs.declared.SegmentationRead.{SegmentationRead}
 use Rattle.part_segment_map.specs.Answer.{viewSegmentation, SegmentationKept}
-use Rattle.base_bits.specs.Many.{eachOf, Times}
+use Rattle.base_syntax.specs.Many.{eachOf, Times}
 use Rattle.grammar_tables.specs.Tables.{ProbValues}
 use Rattle.grammar_tables.specs.Reading.{noProbs, readProbs}
 use Rattle.base_bits.specs.Refusal.{the}

@@ -6,8 +6,8 @@ use mathlib.Core.Path.{_≡_}
 use mathlib.Core.Bool.{Bool}
 use mathlib.Core.List.{List, _++_}
 use lib.ListN.{drop, replicate}
-use Rattle.base_bits.specs.Reader.{Got, groupIf, over, viewNext}
-use Rattle.base_bits.specs.Many.{Times, eachOf}
+use Rattle.base_syntax.specs.Reader.{Got, groupIf, over, viewNext}
+use Rattle.base_syntax.specs.Many.{Times, eachOf}
 use Rattle.grammar_tables.specs.Tables.{ProbValues}
 use Rattle.grammar_settings.specs.Settings.{probOf}
 use Rattle.part_segment_map.specs.declared.ProbsRead.{ProbsRead}

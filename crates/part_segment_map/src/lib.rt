@@ -8,7 +8,7 @@ use base_bits::Bits;
 use base_bits::Cursor;
 use base_bits::Next;
 use base_bits::Refusal;
-use base_settings::SegmentationParams;
+use base_segmentation::SegmentationParams;
 use part_coded::ProbRead;
 
 // As many probabilities as were asked for stand at the front; the other places are 255.

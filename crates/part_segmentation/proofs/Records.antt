@@ -6,14 +6,14 @@ use lib.Dec.{eqb}
 use Rattle.base_bits.specs.declared.Cursor.{Cursor}
 use Rattle.base_bits.specs.declared.Next.{Next}
 use Rattle.base_bits.specs.declared.Next.the-variants.{At}
-use Rattle.base_bits.specs.Reader.{got, viewNext, valued}
-use Rattle.base_settings.specs.declared.segmentation.SegmentationParams.{SegmentationParams}
+use Rattle.base_syntax.specs.Reader.{got, viewNext, valued}
+use Rattle.base_segmentation.specs.declared.SegmentationParams.{SegmentationParams}
 use Rattle.part_segment_map.specs.Map.{mapOf, MapValues, noMap}
 use Rattle.part_segment_data.specs.Data.{DataValues, noData, dataOf}
 use Rattle.part_segmentation.specs.Segmentation.{switched}
 use Rattle.grammar_settings.specs.Settings.{segmentationOf}
 use mathlib.Core.Bool.{Bool, true, false}
-use Rattle.base_bits.specs.Syntax.{flag}
+use Rattle.base_syntax.specs.Syntax.{flag}
 use Rattle.part_segment_data.specs.Features.{featureRows}
 use Rattle.part_segmentation.proofs.Parts.{flatSegmentation}
 

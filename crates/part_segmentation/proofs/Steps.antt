@@ -6,9 +6,9 @@ use mathlib.Core.List.{List}
 use Rattle.base_bits.specs.declared.Cursor.{Cursor}
 use Rattle.base_bits.specs.declared.Next.the-variants.{At, Refused}
 use Rattle.base_bits.specs.declared.Refusal.{Refusal}
-use Rattle.base_bits.specs.Reader.{Got, Read, refused, bind, over, said}
-use Rattle.base_bits.proofs.Steps.{group-stop, lacked}
-use Rattle.base_settings.specs.declared.segmentation.SegmentationParams.{SegmentationParams}
+use Rattle.base_syntax.specs.Reader.{Got, Read, refused, bind, over, said}
+use Rattle.base_syntax.proofs.Steps.{group-stop, lacked}
+use Rattle.base_segmentation.specs.declared.SegmentationParams.{SegmentationParams}
 use Rattle.part_segment_map.specs.declared.SegmentationRead.{SegmentationRead}
 use Rattle.part_segmentation.specs.Segmentation.{SegmentationIs}
 use Rattle.grammar_tables.specs.Tables.{SegmentationValues}

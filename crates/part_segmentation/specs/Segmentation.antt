@@ -4,8 +4,8 @@ use Prim.Native.Nat.{ℕ}
 use mathlib.Core.Bool.{Bool, false}
 use mathlib.Core.Path.{_≡_}
 use mathlib.Core.List.{List}
-use Rattle.base_bits.specs.Reader.{over}
-use Rattle.base_settings.specs.declared.segmentation.SegmentationParams.{SegmentationParams}
+use Rattle.base_syntax.specs.Reader.{over}
+use Rattle.base_segmentation.specs.declared.SegmentationParams.{SegmentationParams}
 use Rattle.part_segment_map.specs.Answer.{viewSegmentation, SegmentationKept}
 use Rattle.part_segment_map.specs.declared.SegmentationRead.{SegmentationRead}
 use Rattle.grammar_settings.specs.Settings.{segmentationOf}

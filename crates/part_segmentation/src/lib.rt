@@ -4,7 +4,7 @@ use base_bits::Bits;
 use base_bits::Cursor;
 use base_bits::Next;
 use base_bits::Refusal;
-use base_settings::SegmentationParams;
+use base_segmentation::SegmentationParams;
 use part_segment_map::SegmentationRead;
 
 // The two updates are false unless they are read; what isn't coded keeps its remembered value.

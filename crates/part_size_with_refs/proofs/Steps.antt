@@ -5,9 +5,9 @@ use mathlib.Core.Path.{_≡_}
 use mathlib.Core.List.{List}
 use Rattle.base_bits.specs.declared.Cursor.{Cursor}
 use Rattle.base_bits.specs.declared.Refusal.the-variants.{PastEnd}
-use Rattle.base_bits.specs.Reader.{Got, Read, refused, bind, over, said}
-use Rattle.base_bits.proofs.Steps.{group-step, group-stop}
-use Rattle.base_settings.specs.declared.size.FrameSize.{FrameSize}
+use Rattle.base_syntax.specs.Reader.{Got, Read, refused, bind, over, said}
+use Rattle.base_syntax.proofs.Steps.{group-step, group-stop}
+use Rattle.base_size.specs.declared.FrameSize.{FrameSize}
 use Rattle.part_sizes.specs.declared.Sizes.{Sizes}
 use Rattle.part_sizes.specs.declared.SizesRead.{SizesRead}
 use Rattle.part_sizes.specs.declared.SizesRead.the-variants.{Value as Both, Short as NoSizes}

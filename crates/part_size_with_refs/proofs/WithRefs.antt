@@ -9,13 +9,13 @@ use borrow.Author.Tests.{ne-eqb}
 use lib.ListN.{length, List·getD-eq-default}
 use Rattle.base_bits.specs.declared.Cursor.{Cursor}
 use Rattle.base_bits.specs.declared.Refusal.the-variants.{PastEnd}
-use Rattle.base_bits.specs.Reader.{Got, Read, read, stopped, got, refused, bind, groupIf, over, Reader, give, field, fieldIf, _>>=_, said, valued}
+use Rattle.base_syntax.specs.Reader.{Got, Read, read, stopped, got, refused, bind, groupIf, over, Reader, give, field, fieldIf, _>>=_, said, valued}
 use Rattle.base_shared.specs.Choice.{pick}
-use Rattle.base_bits.proofs.Steps.{group-step, group-stop, tail}
+use Rattle.base_syntax.proofs.Steps.{group-step, group-stop, tail}
 use Rattle.grammar_tables.specs.Reading.{readRun, noSizeValues, readFrameSize, readRender, readFound}
 use Rattle.part_coded.proofs.Run.{Counted, counted-full}
-use Rattle.base_settings.specs.FrameSize.{noSize}
-use Rattle.base_settings.specs.declared.size.FrameSize.{FrameSize}
+use Rattle.base_size.specs.FrameSize.{noSize}
+use Rattle.base_size.specs.declared.FrameSize.{FrameSize}
 use Rattle.part_size_with_refs.specs.declared.Found.{Found}
 use Rattle.part_size_with_refs.specs.declared.Found.the-variants.{At, Nothing, Short}
 use Rattle.part_refs.specs.declared.Refs.{Refs}

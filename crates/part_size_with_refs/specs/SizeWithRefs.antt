@@ -6,10 +6,10 @@ use mathlib.Core.Path.{_≡_}
 use mathlib.Core.List.{List, [], _∷_}
 use lib.Dec.{eqb}
 use lib.ListN.{getD}
-use Rattle.base_bits.specs.Reader.{Got, got, refused, Reader, give, groupIf, over, _>>=_}
+use Rattle.base_syntax.specs.Reader.{Got, got, refused, Reader, give, groupIf, over, _>>=_}
 use Rattle.base_bits.specs.declared.Refusal.the-variants.{PastEnd}
-use Rattle.base_settings.specs.FrameSize.{noSize}
-use Rattle.base_settings.specs.declared.size.FrameSize.{FrameSize}
+use Rattle.base_size.specs.FrameSize.{noSize}
+use Rattle.base_size.specs.declared.FrameSize.{FrameSize}
 use Rattle.part_sizes.specs.Size.{sizeOr}
 use Rattle.grammar_tables.specs.Tables.{SizeValues, RenderValues, FoundValues, foundAt}
 use Rattle.grammar_tables.specs.Reading.{noSizeValues, readFrameSize, noRender, readRender, noFound, readFound}

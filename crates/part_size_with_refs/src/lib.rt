@@ -1,12 +1,12 @@
 // frame_size_with_refs(): the size that a reference gives, or one of its own.
 ghost use mathlib.Core.Path.{_≡_};
 ghost use Prim.Native.Nat.{_<_};
-ghost use Rattle.base_bits.specs.Reader.{over};
+ghost use Rattle.base_syntax.specs.Reader.{over};
 ghost use Rattle.part_sizes.specs.Sizes.{viewSizes};
 ghost use Rattle.part_size_with_refs.specs.SizeWithRefs.{FoundIs, refSlot, slotSize, readSizeWithRefs, sizeWithRefsOf};
 use base_bits::Bits;
 use base_bits::Cursor;
-use base_settings::FrameSize;
+use base_size::FrameSize;
 use part_refs::Refs;
 use part_sizes::SizesRead;
 

@@ -3,8 +3,8 @@
 use Prim.Native.Nat.{ℕ}
 use mathlib.Core.Path.{_≡_, sym, _∙_}
 use mathlib.Core.List.{List}
-use Rattle.base_bits.specs.Reader.{Got, got, refused, over}
-use Rattle.base_settings.specs.declared.size.FrameSize.{FrameSize}
+use Rattle.base_syntax.specs.Reader.{Got, got, refused, over}
+use Rattle.base_size.specs.declared.FrameSize.{FrameSize}
 use Rattle.part_sizes.specs.declared.Sizes.{Sizes}
 use Rattle.part_sizes.specs.declared.SizesRead.{SizesRead}
 use Rattle.part_sizes.specs.declared.SizesRead.the-variants.{Value as Both, Short as NoSizes}

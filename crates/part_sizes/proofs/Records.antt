@@ -6,8 +6,8 @@ use mathlib.Core.Bool.{Bool, true, false}
 use mathlib.Core.List.{List}
 use lib.Dec.{eqb}
 use Rattle.base_bits.specs.declared.Cursor.{Cursor}
-use Rattle.base_bits.specs.Reader.{got, groupIf, valued}
-use Rattle.base_settings.specs.declared.size.FrameSize.{FrameSize}
+use Rattle.base_syntax.specs.Reader.{got, groupIf, valued}
+use Rattle.base_size.specs.declared.FrameSize.{FrameSize}
 use Rattle.part_sizes.specs.declared.SizeRead.{SizeRead}
 use Rattle.part_sizes.specs.declared.SizeRead.the-variants.{Value as Size}
 use Rattle.part_sizes.specs.Size.{sizeOr, SizeIs, SizeOrIs}

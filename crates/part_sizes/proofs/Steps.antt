@@ -7,9 +7,9 @@ use mathlib.Core.List.{List}
 use Rattle.base_bits.specs.declared.Cursor.{Cursor}
 use Rattle.base_bits.specs.declared.Refusal.the-variants.{PastEnd}
 use Rattle.base_bits.specs.Refusal.{Name}
-use Rattle.base_bits.specs.Reader.{Got, Read, refused, bind, groupIf, over, said}
-use Rattle.base_bits.proofs.Steps.{group-step, group-stop}
-use Rattle.base_settings.specs.declared.size.FrameSize.{FrameSize}
+use Rattle.base_syntax.specs.Reader.{Got, Read, refused, bind, groupIf, over, said}
+use Rattle.base_syntax.proofs.Steps.{group-step, group-stop}
+use Rattle.base_size.specs.declared.FrameSize.{FrameSize}
 use Rattle.part_sizes.specs.declared.SizeRead.{SizeRead}
 use Rattle.part_sizes.specs.declared.SizeRead.the-variants.{Value, Short}
 use Rattle.part_sizes.specs.declared.Sizes.{Sizes}

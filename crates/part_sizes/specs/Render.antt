@@ -1,7 +1,7 @@
 -- render_size() (VP9 6.2.4): a size of its own, or the frame's.
 -- Assumes nothing.
-use Rattle.base_bits.specs.Syntax.{flag}
-use Rattle.base_settings.specs.declared.size.FrameSize.{FrameSize}
+use Rattle.base_syntax.specs.Syntax.{flag}
+use Rattle.base_size.specs.declared.FrameSize.{FrameSize}
 use Rattle.part_sizes.specs.Size.{sizeOr}
 use Rattle.part_sizes.specs.declared.Render.{Render}
 use Rattle.grammar_tables.specs.Tables.{RenderValues}

@@ -6,9 +6,9 @@ use mathlib.Core.Bool.{Bool}
 use mathlib.Core.List.{List}
 use Rattle.base_bits.specs.Refusal.{Name}
 use Rattle.base_shared.specs.Choice.{pick}
-use Rattle.base_bits.specs.Reader.{Got, got, refused, groupIf, over}
+use Rattle.base_syntax.specs.Reader.{Got, got, refused, groupIf, over}
 use Rattle.base_bits.specs.declared.Refusal.the-variants.{PastEnd}
-use Rattle.base_settings.specs.declared.size.FrameSize.{FrameSize}
+use Rattle.base_size.specs.declared.FrameSize.{FrameSize}
 use Rattle.part_sizes.specs.declared.SizeRead.{SizeRead}
 use Rattle.part_sizes.specs.declared.SizeRead.the-variants.{Value, Short}
 use Rattle.grammar_tables.specs.Tables.{SizeValues}

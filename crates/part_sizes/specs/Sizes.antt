@@ -1,8 +1,8 @@
 -- frame_size() and render_size(), as key frames and intra-only frames have them (VP9 6.2).
 -- Assumes nothing.
-use Rattle.base_bits.specs.Reader.{Got, got, refused, Reader, give, _>>=_}
+use Rattle.base_syntax.specs.Reader.{Got, got, refused, Reader, give, _>>=_}
 use Rattle.base_bits.specs.declared.Refusal.the-variants.{PastEnd}
-use Rattle.base_settings.specs.declared.size.FrameSize.{FrameSize}
+use Rattle.base_size.specs.declared.FrameSize.{FrameSize}
 use Rattle.grammar_tables.specs.Tables.{SizeValues, RenderValues}
 use Rattle.grammar_tables.specs.Reading.{noSizeValues, readFrameSize, noRender, readRender}
 use Rattle.grammar_tables.specs.Header.{sizeOf}

@@ -1,12 +1,12 @@
 // frame_size() and render_size().
 ghost use mathlib.Core.Path.{_≡_};
-ghost use Rattle.base_bits.specs.Reader.{over};
+ghost use Rattle.base_syntax.specs.Reader.{over};
 ghost use Rattle.part_sizes.specs.Size.{SizeIs, SizeOrIs};
 ghost use Rattle.grammar_tables.specs.Reading.{readRender};
 ghost use Rattle.part_sizes.specs.Sizes.{readSizes, withRender, sizesOf, viewSizes};
 use base_bits::Bits;
 use base_bits::Cursor;
-use base_settings::FrameSize;
+use base_size::FrameSize;
 
 pub enum SizeRead {
     Value(FrameSize, Cursor),

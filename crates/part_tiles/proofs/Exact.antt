@@ -3,7 +3,7 @@
 use Prim.Native.Nat.{ℕ}
 use mathlib.Core.Path.{_≡_, sym, _∙_}
 use mathlib.Core.List.{List}
-use Rattle.base_bits.specs.Reader.{Got, got, refused, over}
+use Rattle.base_syntax.specs.Reader.{Got, got, refused, over}
 use Rattle.part_tiles.specs.declared.Tiles.{Tiles}
 use Rattle.part_tiles.specs.declared.TilesRead.{TilesRead}
 use Rattle.part_tiles.specs.declared.TilesRead.the-variants.{Value, Short}

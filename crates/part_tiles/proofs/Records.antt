@@ -16,8 +16,8 @@ use Rattle.base_bits.specs.declared.Cursor.{Cursor}
 use Rattle.base_bits.specs.declared.Refusal.{Refusal}
 use Rattle.base_bits.specs.declared.Refusal.the-variants.{PastEnd}
 use Rattle.base_bits.specs.Read.{readBits, readBitsIf}
-use Rattle.base_bits.specs.Reader.{Got, Read, read, stopped, got, refused, over, valued}
-use Rattle.base_bits.proofs.Steps.{value-lt, value-if-lt}
+use Rattle.base_syntax.specs.Reader.{Got, Read, read, stopped, got, refused, over, valued}
+use Rattle.base_syntax.proofs.Steps.{value-lt, value-if-lt}
 use Rattle.grammar_tables.specs.Reading.{readRun, readCols}
 use Rattle.grammar_tables.proofs.Laws.{run-reads, run-few}
 use Rattle.part_tiles.specs.declared.CountRead.{CountRead}

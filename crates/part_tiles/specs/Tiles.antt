@@ -1,7 +1,7 @@
 -- tile_info() (VP9 6.2.13), for a frame's width.
 -- Assumes nothing.
 use Prim.Native.Nat.{ℕ, _+_}
-use Rattle.base_bits.specs.Reader.{Got, got, refused}
+use Rattle.base_syntax.specs.Reader.{Got, got, refused}
 use Rattle.base_bits.specs.declared.Refusal.the-variants.{PastEnd}
 use Rattle.grammar_tables.specs.Tables.{superblocks, least, TilesValues}
 use Rattle.part_tiles.specs.declared.Tiles.{Tiles}

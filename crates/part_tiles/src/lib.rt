@@ -1,6 +1,6 @@
 // The tiles of a frame: tile_info() of VP9.
 ghost use mathlib.Core.Path.{_≡_};
-ghost use Rattle.base_bits.specs.Reader.{over};
+ghost use Rattle.base_syntax.specs.Reader.{over};
 ghost use Rattle.grammar_tables.specs.Reading.{readRun, readCols, readTiles};
 ghost use Rattle.grammar_tables.specs.Tables.{superblocks, least, most};
 ghost use Rattle.part_tiles.specs.Tiles.{colsOf, tilesOf, viewCount, viewTiles};

@@ -4,8 +4,8 @@ use Prim.Native.Nat.{ℕ}
 use mathlib.Core.Bool.{Bool, true, not}
 use Rattle.base_bits.specs.Refusal.{the}
 use Rattle.base_shared.specs.Choice.{pick}
-use Rattle.base_bits.specs.Syntax.{flag}
-use Rattle.base_bits.specs.Reader.{Got, got, refused, Reader, give, field, fieldIf, _>>=_}
+use Rattle.base_syntax.specs.Syntax.{flag}
+use Rattle.base_syntax.specs.Reader.{Got, got, refused, Reader, give, field, fieldIf, _>>=_}
 use Rattle.base_bits.specs.declared.Refusal.the-variants.{PastEnd}
 use Rattle.part_traits.specs.declared.Context.{Context}
 use Rattle.part_traits.specs.declared.ContextRead.{ContextRead}

@@ -3,8 +3,8 @@
 use Prim.Native.Nat.{ℕ}
 use lib.Dec.{eqb}
 use Rattle.base_bits.specs.Refusal.{the}
-use Rattle.base_bits.specs.Syntax.{flag}
-use Rattle.base_bits.specs.Reader.{Got, got, refused, Reader, give, field, _>>=_}
+use Rattle.base_syntax.specs.Syntax.{flag}
+use Rattle.base_syntax.specs.Reader.{Got, got, refused, Reader, give, field, _>>=_}
 use Rattle.base_bits.specs.declared.Refusal.the-variants.{PastEnd}
 use Rattle.part_traits.specs.declared.Traits.{Traits}
 use Rattle.part_traits.specs.declared.TraitsRead.{TraitsRead}

@@ -1,6 +1,6 @@
 // What a frame says of itself outside the groups: its traits, its kind, the frame context.
 ghost use mathlib.Core.Path.{_≡_};
-ghost use Rattle.base_bits.specs.Reader.{over};
+ghost use Rattle.base_syntax.specs.Reader.{over};
 ghost use Rattle.part_traits.specs.Traits.{readTraits, traitsOf, viewTraits};
 ghost use Rattle.part_traits.specs.Kind.{readKind, kindOf, viewKind};
 ghost use Rattle.part_traits.specs.Context.{readContext, parallelOf, contextOf, viewContext};

@@ -4,8 +4,8 @@ use mathlib.Core.List.{List}
 use mathlib.Core.Bool.{Bool, false, _&&_}
 use lib.IntN.{ℤ, pos}
 use Rattle.base_enums.specs.declared.SegLvl.the-variants.{AltQ, AltL, RefFrame, LvlSkip}
-use Rattle.base_settings.specs.declared.segmentation.SegmentationParams.{SegmentationParams}
-use Rattle.base_settings.specs.SegmentationParams.{featureIn}
+use Rattle.base_segmentation.specs.declared.SegmentationParams.{SegmentationParams}
+use Rattle.base_segmentation.specs.SegmentationParams.{featureIn}
 use Rattle.segment_features.specs.declared.Features.{Features}
 
 -- by the flags enabled and abs_or_delta_update and the rows of bits and data; as in the source, reference and skip

@@ -4,10 +4,10 @@ ghost use mathlib.Core.Bool.{false, _&&_};
 ghost use Prim.Native.Nat.{_+_, _*_};
 ghost use lib.IntN.{pos};
 ghost use Rattle.base_enums.specs.SegLvl.{segLvlNumber};
-ghost use Rattle.base_settings.specs.SegmentationParams.{featureIn};
+ghost use Rattle.base_segmentation.specs.SegmentationParams.{featureIn};
 ghost use Rattle.segment_features.specs.Features.{featuresIn};
 use base_enums::SegLvl;
-use base_settings::SegmentationParams;
+use base_segmentation::SegmentationParams;
 
 pub type Enabled = [bool; SegmentationParams::FEATURES];
 

@@ -5,7 +5,7 @@ use mathlib.Core.List.{List, [], _∷_}
 use lib.Dec.{eqb}
 use lib.IntN.{ℤ, pos}
 use lib.ListN.{getD}
-use Rattle.base_settings.specs.declared.loop_filter.LoopFilterParams.{LoopFilterParams}
+use Rattle.base_loop_filter.specs.declared.LoopFilterParams.{LoopFilterParams}
 use Rattle.base_shared.specs.Choice.{pick}
 use Rattle.segment_clamp.specs.Clamp.{clampTo, changed}
 use Rattle.segment_grid.specs.Grid.{level}

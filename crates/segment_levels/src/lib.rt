@@ -3,7 +3,7 @@ ghost use mathlib.Core.Path.{_≡_};
 ghost use lib.IntN.{_+ℤ_};
 ghost use Rattle.segment_levels.specs.Levels.{scaled, levelMoved, pairOf, deltaGrid, levelsAt};
 ghost use Rattle.segment_levels.specs.Once.{frameLevels, kept, levelsFrom};
-use base_settings::LoopFilterParams;
+use base_loop_filter::LoopFilterParams;
 use segment_grid::Grid;
 
 const MAX_LEVEL: u8 = 63;

@@ -5,10 +5,10 @@ use mathlib.Core.List.{List}
 use lib.IntN.{ℤ, pos, _+ℤ_}
 use Rattle.base_enums.specs.declared.BitDepth.{BitDepth}
 use Rattle.base_enums.specs.declared.SegLvl.the-variants.{AltQ}
-use Rattle.base_settings.specs.declared.quantization.QuantizationParams.{QuantizationParams}
-use Rattle.base_settings.specs.declared.segmentation.SegmentationParams.{SegmentationParams}
+use Rattle.base_quantization.specs.declared.QuantizationParams.{QuantizationParams}
+use Rattle.base_segmentation.specs.declared.SegmentationParams.{SegmentationParams}
 use Rattle.base_shared.specs.Choice.{pick}
-use Rattle.base_settings.specs.SegmentationParams.{featureActive, featureData}
+use Rattle.base_segmentation.specs.SegmentationParams.{featureActive, featureData}
 use Rattle.segment_clamp.specs.Clamp.{clampTo, changed}
 use Rattle.segment_tables.specs.Tables.{dcTable, acTable, entry}
 use Rattle.segment_quant.specs.declared.Scales.{Scales}

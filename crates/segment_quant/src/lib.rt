@@ -5,8 +5,8 @@ ghost use Rattle.segment_clamp.specs.Clamp.{clampTo};
 ghost use Rattle.segment_quant.specs.Quant.{qindexOf, qindex, scaleAt, dcDelta, acDelta, dcQuant, acQuant, scalesAt};
 use base_enums::BitDepth;
 use base_enums::SegLvl;
-use base_settings::QuantizationParams;
-use base_settings::SegmentationParams;
+use base_quantization::QuantizationParams;
+use base_segmentation::SegmentationParams;
 use segment_tables::Table;
 
 const MAX_Q_INDEX: u8 = 255;

@@ -6,7 +6,7 @@ use Prim.Native.Nat.{ℕ}
 use lib.IntN.{ℤ}
 use Rattle.base_enums.specs.declared.BitDepth.{BitDepth}
 use Rattle.base_types.specs.declared.header.Header.{Header}
-use Rattle.base_settings.specs.declared.quantization.QuantizationParams.{QuantizationParams}
+use Rattle.base_quantization.specs.declared.QuantizationParams.{QuantizationParams}
 use Rattle.base_shared.specs.Choice.{pick}
 use Rattle.segment_clamp.specs.Clamp.{clampTo, changed}
 use Rattle.segment_tables.specs.Tables.{dcTable, acTable}

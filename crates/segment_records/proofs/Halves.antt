@@ -3,8 +3,8 @@ use mathlib.Core.Path.{_≡_, refl}
 use Prim.Native.Nat.{ℕ}
 use Rattle.base_enums.specs.declared.BitDepth.{BitDepth}
 use Rattle.base_types.specs.declared.header.Header.{Header}
-use Rattle.base_settings.specs.declared.quantization.QuantizationParams.{QuantizationParams}
-use Rattle.base_settings.specs.declared.segmentation.SegmentationParams.{SegmentationParams}
+use Rattle.base_quantization.specs.declared.QuantizationParams.{QuantizationParams}
+use Rattle.base_segmentation.specs.declared.SegmentationParams.{SegmentationParams}
 use Rattle.segment_grid.specs.Grid.{gridOf, rowOf}
 use Rattle.segment_quant.specs.Quant.{qindex, dcQuant, acQuant, scalesAt, scalesOf}
 use Rattle.segment_records.specs.declared.entries.Entries.{Entries}

@@ -1,7 +1,7 @@
 -- The scales of a segment and its reference and skip entries.
 use Prim.Native.Nat.{ℕ}
 use Rattle.base_enums.specs.declared.BitDepth.{BitDepth}
-use Rattle.base_settings.specs.declared.quantization.QuantizationParams.{QuantizationParams}
+use Rattle.base_quantization.specs.declared.QuantizationParams.{QuantizationParams}
 use Rattle.segment_tables.specs.Tables.{dcTable, acTable}
 use Rattle.segment_quant.specs.declared.Scales.{Scales}
 use Rattle.segment_quant.specs.Quant.{qindexOf, scalesAt}

@@ -3,9 +3,9 @@
 use Prim.Native.Nat.{ℕ}
 use mathlib.Core.List.{List}
 use lib.IntN.{ℤ}
-use Rattle.base_settings.specs.declared.loop_filter.LoopFilterParams.{LoopFilterParams}
-use Rattle.base_settings.specs.declared.quantization.QuantizationParams.{QuantizationParams}
-use Rattle.base_settings.specs.declared.segmentation.SegmentationParams.{SegmentationParams}
+use Rattle.base_loop_filter.specs.declared.LoopFilterParams.{LoopFilterParams}
+use Rattle.base_quantization.specs.declared.QuantizationParams.{QuantizationParams}
+use Rattle.base_segmentation.specs.declared.SegmentationParams.{SegmentationParams}
 use Rattle.base_shared.specs.Choice.{pick}
 use Rattle.segment_clamp.specs.Clamp.{clampTo, changed}
 use Rattle.segment_grid.specs.Grid.{gridOf, rowOf}

@@ -5,7 +5,7 @@ use mathlib.Core.List.{List}
 use lib.IntN.{pos}
 use lib.ListN.{replicate}
 use Rattle.base_types.specs.declared.header.Header.{Header}
-use Rattle.base_settings.specs.declared.loop_filter.LoopFilterParams.{LoopFilterParams}
+use Rattle.base_loop_filter.specs.declared.LoopFilterParams.{LoopFilterParams}
 use Rattle.segment_grid.specs.Grid.{gridOf, rowOf}
 use Rattle.segment_levels.specs.Levels.{levelsOf}
 use Rattle.segment_records.specs.declared.entries.Entries.{Entries}

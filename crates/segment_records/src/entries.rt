@@ -2,7 +2,7 @@
 ghost use mathlib.Core.Path.{_≡_};
 ghost use Rattle.segment_records.specs.Entries.{entriesWith};
 ghost use Rattle.segment_records.specs.Once.{scalesFrom};
-use base_settings::QuantizationParams;
+use base_quantization::QuantizationParams;
 use segment_features::Features;
 use segment_quant::Scales;
 use segment_tables::Table;

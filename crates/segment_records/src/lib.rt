@@ -7,9 +7,9 @@ ghost use Rattle.segment_records.specs.Once.{levelsAfter, renewed, segme
 mod entries;
 
 use base_enums::BitDepth;
-use base_settings::LoopFilterParams;
-use base_settings::QuantizationParams;
-use base_settings::SegmentationParams;
+use base_loop_filter::LoopFilterParams;
+use base_quantization::QuantizationParams;
+use base_segmentation::SegmentationParams;
 use base_types::Header;
 use entries::Entries;
 use segment_features::Features;

@@ -2,8 +2,8 @@
 -- Assumes nothing.
 use mathlib.Core.Path.{refl}
 use Rattle.base_bits.specs.Bit as Bit
-use Rattle.base_bits.specs.Many as Many
-use Rattle.base_bits.specs.Reader as Reader
+use Rattle.base_syntax.specs.Many as Many
+use Rattle.base_syntax.specs.Reader as Reader
 use Rattle.base_shared.specs.Lists as Lists
 use Rattle.grammar_tables.specs.Tables as Tables
 use Rattle.grammar_tables.specs.Header as Header

@@ -8,10 +8,10 @@ use mathlib.Core.List.{List, [], _∷_, _++_}
 use lib.ListN.{getD, replicate}
 use Rattle.base_enums.specs.declared.FrameType.{FrameType}
 use Rattle.base_enums.specs.declared.FrameType.the-variants.{KeyFrame, InterFrame}
-use Rattle.base_settings.specs.declared.loop_filter.LoopFilterParams.{LoopFilterParams}
+use Rattle.base_loop_filter.specs.declared.LoopFilterParams.{LoopFilterParams}
 use Rattle.base_types.specs.declared.state.ReaderState.{ReaderState}
-use Rattle.base_settings.specs.LoopFilterParams.{defaultFilter, resetFilter}
-use Rattle.base_settings.specs.SegmentationParams.{defaultSegmentation}
+use Rattle.base_loop_filter.specs.LoopFilterParams.{defaultFilter, resetFilter}
+use Rattle.base_segmentation.specs.SegmentationParams.{defaultSegmentation}
 use Rattle.base_types.specs.Header.{defaultHeader}
 use Rattle.base_types.specs.ReaderState.{freshState}
 use Rattle.grammar_tables.specs.Tables.{superblocks, least, most}

@@ -12,8 +12,8 @@ use Rattle.base_enums.specs.ColorSpace.{colorSpaceNumber}
 use Rattle.base_enums.specs.ColorRange.{colorRangeNumber}
 use Rattle.base_enums.specs.FrameType.{frameTypeNumber}
 use Rattle.base_enums.specs.InterpolationFilter.{filterNumber}
-use Rattle.base_settings.specs.declared.size.FrameSize.{FrameSize}
-use Rattle.base_settings.specs.FrameSize.{noSize}
+use Rattle.base_size.specs.declared.FrameSize.{FrameSize}
+use Rattle.base_size.specs.FrameSize.{noSize}
 use Rattle.base_types.specs.declared.header.Header.{Header}
 use Rattle.segment_records.specs.declared.Segmentation.{Segmentation}
 use Rattle.text_signed.specs.Number.{bit, lifted}

@@ -5,7 +5,7 @@ ghost use Rattle.text_record_rows.specs.Records.{colorRow, pictureRow, s
 use base_enums::BitDepth;
 use base_enums::ColorRange;
 use base_enums::ColorSpace;
-use base_settings::FrameSize;
+use base_size::FrameSize;
 use base_types::Header;
 use segment_records::Segmentation;
 

@@ -9,9 +9,9 @@ ghost use Rattle.text_setting_rows.specs.Settings.{
   flagRow,
   dataRow,
 };
-use base_settings::LoopFilterParams;
-use base_settings::QuantizationParams;
-use base_settings::SegmentationParams;
+use base_loop_filter::LoopFilterParams;
+use base_quantization::QuantizationParams;
+use base_segmentation::SegmentationParams;
 
 fn lift_byte(n: i8) -> u32
     ensures { λ r. ⌜ r ≡ lifted n ⌝ }

@@ -1,5 +1,5 @@
-use Rattle.base_bits.specs.Reader.{said}
-use Rattle.base_bits.proofs.Steps.{reading, step}
+use Rattle.base_syntax.specs.Reader.{said}
+use Rattle.base_syntax.proofs.Steps.{reading, step}
 use Rattle.part_opening.proofs.Steps.{sync-step, sync-stop}
 use mathlib.Core.Path.{refl}
 use Rattle.part_color.proofs.Steps.{intra-color-step, intra-color-stop}

@@ -1,4 +1,4 @@
-use Rattle.base_bits.proofs.Steps.{reading}
+use Rattle.base_syntax.proofs.Steps.{reading}
 use Rattle.part_tiles.proofs.Steps.{tiles-step, tiles-stop}
 use Rattle.header_tail.specs.Closing.{readClosing}
 use Rattle.header_tail.proofs.Records.{bytes-fit, closing-read}

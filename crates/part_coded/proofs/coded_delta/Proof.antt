@@ -1,4 +1,4 @@
-use Rattle.base_bits.proofs.Steps.{reading}
+use Rattle.base_syntax.proofs.Steps.{reading}
 use Rattle.grammar_tables.specs.Reading.{readDelta}
 use Rattle.part_coded.proofs.Records.{narrow, short-narrow, value-narrow, magnitude-small, delta-read}
 use borrow.Author.Needs.{needs}

@@ -1,4 +1,4 @@
-use Rattle.base_bits.proofs.Steps.{reading}
+use Rattle.base_syntax.proofs.Steps.{reading}
 use Rattle.grammar_tables.specs.Reading.{readProb}
 use Rattle.part_coded.proofs.Records.{prob-fits, prob-read, prob-none}
 use borrow.Author.Needs.{needs}

@@ -1,6 +1,6 @@
 use Rattle.part_color.proofs.Parts.{in-parts}
-use Rattle.base_bits.proofs.Steps.{reading}
-use Rattle.base_bits.proofs.Binds.{as-parts}
+use Rattle.base_syntax.proofs.Steps.{reading}
+use Rattle.base_syntax.proofs.Binds.{as-parts}
 use Rattle.part_color.proofs.Records.{color-read}
 use Rattle.part_sampling.proofs.Steps.{sampling-step, sampling-stop}
 use borrow.Author.Needs.{needs}

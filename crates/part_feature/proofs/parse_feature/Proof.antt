@@ -1,4 +1,4 @@
-use Rattle.base_bits.proofs.Steps.{reading}
+use Rattle.base_syntax.proofs.Steps.{reading}
 use Rattle.grammar_tables.specs.Reading.{readFeature}
 use Rattle.part_feature.proofs.Records.{value-fits, feature-read}
 use Rattle.part_feature.proofs.Tables.{value-step, value-stop}

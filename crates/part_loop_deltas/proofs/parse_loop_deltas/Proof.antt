@@ -1,4 +1,4 @@
-use Rattle.base_bits.proofs.Steps.{reading}
+use Rattle.base_syntax.proofs.Steps.{reading}
 use Rattle.part_loop_deltas.specs.LoopDeltas.{readLoopDeltas}
 use Rattle.part_loop_deltas.proofs.Steps.{refs-step, refs-stop, modes-step, modes-stop}
 use Rattle.part_loop_deltas.proofs.Readings.{group-left}

@@ -1,6 +1,6 @@
 use Rattle.part_loop_filter.proofs.Parts.{in-parts}
-use Rattle.base_bits.proofs.Steps.{reading}
-use Rattle.base_bits.proofs.Binds.{as-parts}
+use Rattle.base_syntax.proofs.Steps.{reading}
+use Rattle.base_syntax.proofs.Binds.{as-parts}
 use Rattle.part_loop_deltas.proofs.Readings.{group-left, group-taken, group-tail}
 use Rattle.part_loop_deltas.proofs.Steps.{settings-stop}
 use Rattle.part_loop_filter.proofs.Records.{byte-fits, filter-moved, filter-plain}

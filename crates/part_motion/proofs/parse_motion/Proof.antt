@@ -1,4 +1,4 @@
-use Rattle.base_bits.proofs.Steps.{reading}
+use Rattle.base_syntax.proofs.Steps.{reading}
 use Rattle.part_motion.proofs.Steps.{filter-step, filter-stop}
 use Rattle.part_motion.specs.Motion.{readMotion}
 use Rattle.part_motion.proofs.Records.{motion-read}

@@ -1,4 +1,4 @@
-use Rattle.base_bits.proofs.Steps.{reading}
+use Rattle.base_syntax.proofs.Steps.{reading}
 use Rattle.part_motion.specs.Filter.{readFilter}
 use Rattle.part_motion.proofs.Records.{switchable, literal}
 use borrow.Author.Needs.{needs}

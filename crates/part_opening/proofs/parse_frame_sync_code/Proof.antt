@@ -1,4 +1,4 @@
-use Rattle.base_bits.proofs.Steps.{reading}
+use Rattle.base_syntax.proofs.Steps.{reading}
 use Rattle.grammar_tables.specs.Reading.{readSync}
 use borrow.Author.Needs.{needs}
 use Rattle.part_opening.proofs.parse_frame_sync_code.Statement.{statement}

@@ -1,4 +1,4 @@
-use Rattle.base_bits.proofs.Steps.{reading}
+use Rattle.base_syntax.proofs.Steps.{reading}
 use Rattle.part_opening.specs.Opening.{readOpening}
 use Rattle.part_opening.proofs.Records.{slot-fits, opening-read}
 use Rattle.part_opening.proofs.Steps.{profile-step, profile-stop}

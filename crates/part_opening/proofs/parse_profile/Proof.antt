@@ -1,4 +1,4 @@
-use Rattle.base_bits.proofs.Steps.{reading}
+use Rattle.base_syntax.proofs.Steps.{reading}
 use Rattle.part_opening.specs.Profile.{readProfile}
 use Rattle.part_opening.proofs.Records.{twice-fits, profile-fits}
 use borrow.Author.Needs.{needs}

@@ -1,4 +1,4 @@
-use Rattle.base_bits.proofs.Steps.{reading}
+use Rattle.base_syntax.proofs.Steps.{reading}
 use Rattle.grammar_tables.specs.Reading.{readQuantizer}
 use Rattle.part_quantization.proofs.Steps.{delta-q-step, delta-q-stop}
 use Rattle.part_quantization.proofs.Records.{base-fits, quantizer}

@@ -1,4 +1,4 @@
-use Rattle.base_bits.proofs.Steps.{reading}
+use Rattle.base_syntax.proofs.Steps.{reading}
 use Rattle.part_refs.specs.Refs.{refOf}
 use Rattle.grammar_tables.specs.Reading.{readRef}
 use Rattle.part_refs.proofs.Records.{byte-fits}

@@ -1,4 +1,4 @@
-use Rattle.base_bits.proofs.Steps.{reading}
+use Rattle.base_syntax.proofs.Steps.{reading}
 use Rattle.part_refs.proofs.Steps.{refs-step, refs-stop}
 use Rattle.part_refs.specs.Sources.{readSources}
 use Rattle.part_refs.proofs.Records.{byte-fits, sources-read}

@@ -1,4 +1,4 @@
-use Rattle.base_bits.proofs.Steps.{reading}
+use Rattle.base_syntax.proofs.Steps.{reading}
 use Rattle.part_sampling.specs.Sampling.{readSampling}
 use Rattle.part_sampling.proofs.Records.{sampling-read}
 use borrow.Author.Needs.{needs}

@@ -1,5 +1,5 @@
 use mathlib.Core.Path.{refl}
-use Rattle.base_bits.proofs.Steps.{reading}
+use Rattle.base_syntax.proofs.Steps.{reading}
 use Rattle.part_segment_data.specs.Data.{readData}
 use Rattle.part_segment_data.proofs.Records.{data-read, data-kept}
 use Rattle.part_segment_map.proofs.Records.{old-kept}

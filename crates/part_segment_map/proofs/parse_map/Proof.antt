@@ -1,5 +1,5 @@
 use mathlib.Core.Path.{refl}
-use Rattle.base_bits.proofs.Steps.{reading}
+use Rattle.base_syntax.proofs.Steps.{reading}
 use Rattle.part_segment_map.specs.Map.{readMap}
 use Rattle.part_segment_map.proofs.Steps.{probs-step, probs-stop}
 use Rattle.part_segment_map.proofs.Records.{map-read, map-kept, old-kept}

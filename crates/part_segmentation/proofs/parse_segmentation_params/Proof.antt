@@ -1,6 +1,6 @@
 use mathlib.Core.Path.{refl}
-use Rattle.base_bits.proofs.Steps.{reading}
-use Rattle.base_bits.proofs.Binds.{as-parts}
+use Rattle.base_syntax.proofs.Steps.{reading}
+use Rattle.base_syntax.proofs.Binds.{as-parts}
 use Rattle.part_segment_map.proofs.Records.{old-kept, none-kept}
 use Rattle.part_segment_map.proofs.Steps.{there-step, there-stop, absent}
 use Rattle.part_segmentation.proofs.Parts.{in-parts}

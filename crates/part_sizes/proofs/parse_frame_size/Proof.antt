@@ -1,4 +1,4 @@
-use Rattle.base_bits.proofs.Steps.{reading, sum-fits}
+use Rattle.base_syntax.proofs.Steps.{reading, sum-fits}
 use Rattle.grammar_tables.specs.Reading.{readSize}
 use Rattle.grammar_tables.specs.Header.{sizeOf}
 use borrow.Author.Needs.{needs}

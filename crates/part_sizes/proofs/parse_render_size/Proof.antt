@@ -1,4 +1,4 @@
-use Rattle.base_bits.proofs.Steps.{reading}
+use Rattle.base_syntax.proofs.Steps.{reading}
 use Rattle.grammar_tables.specs.Reading.{readRender}
 use Rattle.part_sizes.proofs.Steps.{size-or-step, size-or-stop}
 use Rattle.part_sizes.proofs.Records.{render-read}

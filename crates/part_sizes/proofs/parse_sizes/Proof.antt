@@ -1,4 +1,4 @@
-use Rattle.base_bits.proofs.Steps.{tail}
+use Rattle.base_syntax.proofs.Steps.{tail}
 use Rattle.part_sizes.specs.Sizes.{readSizes}
 use Rattle.part_sizes.proofs.Steps.{size-step, size-stop}
 use Rattle.part_sizes.proofs.Records.{sizes-read}

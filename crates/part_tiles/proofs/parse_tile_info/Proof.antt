@@ -1,5 +1,5 @@
 use borrow.Author.Needs.{needs}
-use Rattle.base_bits.proofs.Steps.{reading}
+use Rattle.base_syntax.proofs.Steps.{reading}
 use Rattle.grammar_tables.specs.Reading.{readTiles}
 use Rattle.part_tiles.proofs.Records.{rows-fit, tiles-read}
 use Rattle.part_tiles.proofs.Steps.{cols-step, cols-stop}

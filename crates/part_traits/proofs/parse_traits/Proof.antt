@@ -1,4 +1,4 @@
-use Rattle.base_bits.proofs.Steps.{reading}
+use Rattle.base_syntax.proofs.Steps.{reading}
 use Rattle.part_traits.specs.Traits.{readTraits, traitsOf}
 use borrow.Author.Needs.{needs}
 use Rattle.part_traits.proofs.parse_traits.Statement.{statement}

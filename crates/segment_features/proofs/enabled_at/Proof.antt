@@ -1,7 +1,7 @@
 -- `segment_features::enabled_at` meets its contract: the place lies in the row, and past the segments the answer is
 -- false.
 use borrow.Author.Needs.{needs}
-use Rattle.base_settings.proofs.Features.{features}
+use Rattle.base_segmentation.proofs.Features.{features}
 use Rattle.segment_features.proofs.enabled_at.Statement.{statement}
 use Rattle.segment_features.proofs.enabled_at.Tie as tie
 

@@ -2,7 +2,7 @@
 use Prim.Native.Nat.{_<_}
 use native.Mathlib.Omega.{arith}
 use borrow.Author.Needs.{needs}
-use Rattle.base_settings.proofs.Features.{features}
+use Rattle.base_segmentation.proofs.Features.{features}
 use Rattle.segment_features.proofs.value_at.Statement.{statement}
 use Rattle.segment_features.proofs.value_at.Tie as tie
 

@@ -1,7 +1,7 @@
 use Prim.Native.Nat.{ℕ}
 use mathlib.Core.Path.{_≡_}
 use mathlib.Core.List.{[], _∷_}
-use Rattle.base_settings.specs.declared.loop_filter.LoopFilterParams.{LoopFilterParams}
+use Rattle.base_loop_filter.specs.declared.LoopFilterParams.{LoopFilterParams}
 use Rattle.text_signed.specs.Number.{bit}
 use mir.Syntax.{w8}
 use Rattle.text_signed.specs.Number.{flagIn, liftedIn}

@@ -1,4 +1,0 @@
-pub mod FrameSize
-pub mod LoopFilterParams
-pub mod QuantizationParams
-pub mod SegmentationParams

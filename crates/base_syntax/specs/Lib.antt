@@ -1,0 +1,5 @@
+pub mod Syntax
+pub mod Fault
+pub mod Reader
+pub mod Law
+pub mod Many
