@@ -50,7 +50,7 @@ HEADER = [
     ("record", "base_loop_filter/specs/* base_quantization/specs/* base_segmentation/specs/*"),
     ("record", "base_types/specs/Header base_slots/specs/*"),
     ("refusals", "header_verdict/src/*"),
-    ("record", "header_parser/src/* header_parser/specs/Answer"),
+    ("record", "header_answer/src/* header_parser/src/* header_parser/specs/Answer"),
     ("refusals", "base_syntax/specs/Fault header_verdict/specs/* header_parser/specs/Demand"),
 ]
 

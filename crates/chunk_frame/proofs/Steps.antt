@@ -7,7 +7,7 @@ use native.Mathlib.Omega.{arith}
 use lib.ListN.{length, take, drop}
 use borrow.Author.Tests.{le-leb, lt-leb}
 use Rattle.base_types.specs.declared.state.ReaderState.{ReaderState}
-use Rattle.header_parser.specs.declared.HeaderRead.{HeaderRead}
+use Rattle.header_answer.specs.declared.HeaderRead.{HeaderRead}
 use Rattle.header_parser.specs.Answer.{parsed}
 use Rattle.chunk_frame.specs.declared.FrameRead.{FrameRead}
 use Rattle.chunk_frame.specs.Place.{outsideFrame, insideFrame, framePlaced}

@@ -9,7 +9,7 @@ use Rattle.base_shared.specs.Choice.{pick}
 use Rattle.base_types.specs.Header.{defaultHeader}
 use Rattle.base_types.specs.declared.state.ReaderState.{ReaderState}
 use Rattle.header_parser.specs.Answer.{parsed}
-use Rattle.header_parser.specs.declared.HeaderRead.{HeaderRead}
+use Rattle.header_answer.specs.declared.HeaderRead.{HeaderRead}
 use Rattle.chunk_frame.specs.declared.FrameRead.{FrameRead}
 use Rattle.header_verdict.specs.declared.Place.the-variants.{Outside, Inside}
 use Rattle.base_shared.specs.Lists.{inside}

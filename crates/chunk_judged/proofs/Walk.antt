@@ -13,7 +13,7 @@ use Rattle.base_types.specs.declared.header.Header.{Header}
 use Rattle.base_types.specs.declared.state.ReaderState.{ReaderState}
 use Rattle.header_verdict.specs.declared.Verdict.{Verdict}
 use Rattle.header_verdict.specs.declared.Verdict.the-variants.{Accepted, Refused}
-use Rattle.header_parser.specs.declared.HeaderRead.{HeaderRead}
+use Rattle.header_answer.specs.declared.HeaderRead.{HeaderRead}
 use Rattle.chunk_index.specs.declared.Answer.{Answer as SplitAnswer}
 use Rattle.chunk_index.specs.declared.Answer.the-variants.{Frames}
 use Rattle.chunk_index.specs.declared.Split.{Split}

@@ -8,7 +8,7 @@ use Rattle.base_bits.specs.declared.Refusal.{Refusal}
 use Rattle.base_types.specs.declared.state.ReaderState.{ReaderState}
 use Rattle.header_verdict.specs.declared.Verdict.{Verdict}
 use Rattle.header_verdict.specs.declared.Verdict.the-variants.{Accepted, Refused}
-use Rattle.header_parser.specs.declared.HeaderRead.{HeaderRead}
+use Rattle.header_answer.specs.declared.HeaderRead.{HeaderRead}
 use Rattle.chunk_index.specs.declared.Split.{Split}
 
 -- what is answered to a frame's bytes under a state

@@ -9,7 +9,7 @@ use Rattle.base_types.specs.Header.{defaultHeader}
 use Rattle.base_types.specs.declared.state.ReaderState.{ReaderState}
 use Rattle.grammar_tables.specs.Header.{HeaderValues, Spelled}
 use Rattle.grammar_record.specs.Record.{headerOf, stateAfter}
-use Rattle.header_parser.specs.declared.HeaderRead.{HeaderRead}
+use Rattle.header_answer.specs.declared.HeaderRead.{HeaderRead}
 use Rattle.header_parser.specs.Answer.{parsed}
 use Rattle.header_parser.proofs.Theorems.{accepts}
 use Rattle.chunk_index.specs.declared.Answer.the-variants as split

@@ -34,7 +34,7 @@ use Rattle.header_tail.specs.Closing.{readClosing, closingOf, viewClosing}
 use Rattle.header_tail.proofs.Steps.{closing-got, closing-short}
 use Rattle.header_record.specs.Record.{independent, cutLength, frameRecord}
 use Rattle.header_state.specs.State.{frameState}
-use Rattle.header_parser.specs.declared.HeaderRead.{HeaderRead}
+use Rattle.header_answer.specs.declared.HeaderRead.{HeaderRead}
 use Rattle.header_parser.specs.Parts.{rememberedColor, widthOf, finished, settled, framed, shownHeader}
 use Rattle.header_parser.specs.Answer.{accepted, refusedWith, outcome}
 use Rattle.header_parser.proofs.Outcomes.{came, came-not}

@@ -28,7 +28,7 @@ use Rattle.grammar_tables.specs.Reading.{readHeader}
 use Rattle.grammar_tables.proofs.Header.{header-reads, header-size}
 use Rattle.header_parser.specs.Answer.{accepted, refusedWith, outcome, parsed}
 use Rattle.header_parser.specs.Demand.{IsSpelled, AtFault, Demanded}
-use Rattle.header_parser.specs.declared.HeaderRead.{HeaderRead}
+use Rattle.header_answer.specs.declared.HeaderRead.{HeaderRead}
 
 module _ (s : List ℕ) (slots : List FrameSize) (v : HeaderValues) where
   short-enough : length (flat (headerFields slots v)) < 2 ^ 64

@@ -38,7 +38,7 @@ use Rattle.grammar_tables.specs.Header.{HeaderValues, headerFields}
 use Rattle.grammar_record.specs.Record.{lengthOf, headerOf, stateAfter}
 use Rattle.grammar_tables.specs.Reading.{noFrame, readFrame, readHeader}
 use Rattle.grammar_tables.proofs.Header.{header-reads, header-size}
-use Rattle.header_parser.specs.declared.HeaderRead.{HeaderRead}
+use Rattle.header_answer.specs.declared.HeaderRead.{HeaderRead}
 use Rattle.header_parser.specs.Parts.{rememberedColor, widthOf, finished, framed, shownHeader}
 use Rattle.header_parser.specs.Answer.{accepted, outcome, parsed}
 use Rattle.header_parser.proofs.Outcomes.{outcome-bind, outcome-same}

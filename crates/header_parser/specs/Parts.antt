@@ -10,7 +10,7 @@ use Rattle.header_tail.specs.Settings.{readSettings, settingsOf}
 use Rattle.header_tail.specs.Closing.{readClosing, closingOf}
 use Rattle.header_record.specs.Record.{independent, cutLength, frameRecord}
 use Rattle.header_state.specs.State.{frameState}
-use Rattle.header_parser.specs.declared.HeaderRead.{HeaderRead}
+use Rattle.header_answer.specs.declared.HeaderRead.{HeaderRead}
 use Rattle.part_color.specs.declared.Color.{Color}
 use Rattle.header_parser.specs.Answer.{accepted, outcome}
 use Rattle.base_types.specs.declared.header.Header.{Header}

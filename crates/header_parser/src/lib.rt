@@ -8,6 +8,7 @@ use base_bits::Refusal;
 use base_enums::Profile;
 use base_types::Header;
 use base_types::ReaderState;
+use header_answer::HeaderRead;
 use header_lead::Lead;
 use header_lead::LeadRead;
 use header_tail::ClosingRead;
@@ -16,13 +17,6 @@ use header_verdict::Verdict;
 use part_color::Color;
 use part_opening::Opening;
 use part_opening::OpeningRead;
-
-// On a refusal the header is the default one and the state the one before.
-pub struct HeaderRead {
-    pub verdict: Verdict,
-    pub header: Header,
-    pub state: ReaderState,
-}
 
 fn refused(st: ReaderState, e: Refusal) -> HeaderRead
     ensures { λ r. ⌜ r ≡ refusedWith st e ⌝ }
