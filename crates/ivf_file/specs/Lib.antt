@@ -1,4 +1,5 @@
 pub mod File
 pub mod Record
+pub mod Records
 pub mod Table
 pub mod Spelling
