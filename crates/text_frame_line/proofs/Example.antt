@@ -6,15 +6,15 @@ use Rattle.base_enums.specs.declared.FrameType.the-variants.{KeyFrame}
 use Rattle.base_types.specs.declared.header.Header.{Header}
 use Rattle.text_numeral.specs.Ascii.{ascii}
 use Rattle.text_numeral.specs.Numeral.{numeral, numeralOf}
-use Rattle.text_line.specs.Line.{line}
+use Rattle.text_line.specs.Line.{lineText}
 use Rattle.text_frame_line.specs.Frame.{frameLine}
 
 module _ (h : Header) (w : h .width ≡ 64) (g : h .height ≡ 64) (f : h .«refresh_frame_flags» ≡ 255) (u : h .«uncompressed_header_size_in_bytes» ≡ 14) where
-  pub key-frame : h .«show_existing_frame» ≡ false → h .«frame_type» ≡ KeyFrame → frameLine 0 0 0 14 h ≡ ascii "0 0 key 0 14 64 64 255 14\n"
-  unfolding frameLine line numeral numeralOf
+  pub key-frame : h .«show_existing_frame» ≡ false → h .«frame_type» ≡ KeyFrame → lineText (frameLine 0 0 0 14 h) ≡ ascii "0 0 key 0 14 64 64 255 14\n"
+  unfolding lineText numeral numeralOf
   key-frame s k = rw (s, k, w, g, f, u)
 
 module _ (h : Header) (w : h .width ≡ 0) (g : h .height ≡ 0) (f : h .«refresh_frame_flags» ≡ 0) (u : h .«uncompressed_header_size_in_bytes» ≡ 0) where
-  pub shown-frame : h .«show_existing_frame» ≡ true → frameLine 0 1 14 1 h ≡ ascii "0 1 show 14 1 0 0 0 0\n"
-  unfolding frameLine line numeral numeralOf
+  pub shown-frame : h .«show_existing_frame» ≡ true → lineText (frameLine 0 1 14 1 h) ≡ ascii "0 1 show 14 1 0 0 0 0\n"
+  unfolding lineText numeral numeralOf
   shown-frame s = rw (s, w, g, f, u)

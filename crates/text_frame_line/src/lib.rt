@@ -1,10 +1,10 @@
-// The line of a frame. It is put whole, or not at all where fewer than `text_line::MAX_LINE` bytes are left.
+// The line of a frame, put as far as there is room for it.
 ghost use mathlib.Core.Path.{_≡_};
 ghost use mathlib.Core.List.{_++_};
 ghost use Rattle.text_numeral.specs.Ascii.{ascii};
 ghost use Rattle.text_numeral.specs.Numeral.{numeral};
 ghost use Rattle.base_bytes.specs.Put.{Written};
-ghost use Rattle.text_line.specs.Line.{Line};
+ghost use Rattle.text_line.specs.Line.{lineText};
 ghost use Rattle.text_frame_line.specs.Frame.{frameKind, kindWord, frameLine};
 use base_enums::FrameType;
 use base_types::Header;
@@ -37,7 +37,7 @@ impl Kind {
 }
 
 fn put_kind(out: &mut [u8], at: usize, kind: Kind) -> usize
-    ensures { λ r. ⌜ Written (now (out .entry)) at (kindWord kind) r (now (out .exit)) ⌝ }
+    ensures { λ r. ⌜ Written (now (out .entry)) at (ascii (kindWord kind)) r (now (out .exit)) ⌝ }
 {
     match kind {
         Kind::Key => base_bytes::put(out, at, b"key"),
@@ -49,7 +49,7 @@ fn put_kind(out: &mut [u8], at: usize, kind: Kind) -> usize
 
 // `C I kind `
 fn put_frame(out: &mut [u8], at: usize, chunk: u64, frame: u64, kind: Kind) -> usize
-    ensures { λ r. ⌜ Written (now (out .entry)) at ((numeral chunk ++ ascii " ") ++ ((numeral frame ++ ascii " ") ++ (kindWord kind ++ ascii " "))) r (now (out .exit)) ⌝ }
+    ensures { λ r. ⌜ Written (now (out .entry)) at ((numeral chunk ++ ascii " ") ++ ((numeral frame ++ ascii " ") ++ (ascii (kindWord kind) ++ ascii " "))) r (now (out .exit)) ⌝ }
 {
     let a = text_line::put_field(out, at, chunk);
     let b = text_line::put_field(out, a, frame);
@@ -79,27 +79,6 @@ fn put_header(out: &mut [u8], at: usize, refresh: u8, hdr: u16) -> usize
     text_line::put_last(out, next, n)
 }
 
-fn put_frame_line(
-    out: &mut [u8],
-    at: usize,
-    chunk: u64,
-    frame: u64,
-    place: u64,
-    size: u64,
-    header: Header,
-) -> usize
-    ensures { λ r. ⌜ Written (now (out .entry)) at (frameLine chunk frame place size header) r (now (out .exit)) ⌝ }
-{
-    let a = put_frame(out, at, chunk, frame, Kind::of(header));
-    let b = put_sizes(out, a, place, size, header.width, header.height);
-    put_header(
-        out,
-        b,
-        header.refresh_frame_flags,
-        header.uncompressed_header_size_in_bytes,
-    )
-}
-
 // A frame of an accepted chunk, with its place and size in the chunk and its header.
 pub fn frame_line(
     out: &mut [u8],
@@ -110,18 +89,21 @@ pub fn frame_line(
     size: usize,
     header: Header,
 ) -> usize
-    ensures { λ r. ⌜ Line (now (out .entry)) at (frameLine chunk frame place size header) r (now (out .exit)) ⌝ }
+    ensures { λ r. ⌜ Written (now (out .entry)) at (lineText (frameLine chunk frame place size header)) r (now (out .exit)) ⌝ }
 {
-    if !text_line::has_room(out.len(), at) {
-        return at;
-    }
-    put_frame_line(
+    let a = put_frame(out, at, chunk, frame as u64, Kind::of(header));
+    let b = put_sizes(
         out,
-        at,
-        chunk,
-        frame as u64,
+        a,
         place as u64,
         size as u64,
-        header,
+        header.width,
+        header.height,
+    );
+    put_header(
+        out,
+        b,
+        header.refresh_frame_flags,
+        header.uncompressed_header_size_in_bytes,
     )
 }

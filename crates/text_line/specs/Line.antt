@@ -1,25 +1,27 @@
--- A line of text, and a line put into a buffer: docs/RULES.md, "IVF, picture choice, listing".
+-- Lines of text: docs/RULES.md, "IVF, picture choice, listing".
 -- Assumes nothing.
-use Prim.Native.Nat.{ℕ, _+_}
-use mathlib.Core.Path.{_≡_}
-use mathlib.Core.Bool.{Bool}
+use Prim.Native.Nat.{ℕ}
+use Prim.Native.String.{String}
 use mathlib.Core.List.{List, [], _∷_, _++_}
-use lib.Dec.{leb}
-use lib.ListN.{length, take, drop}
-use Rattle.base_shared.specs.Choice.{pick}
 use Rattle.text_numeral.specs.Ascii.{ascii}
+use Rattle.text_numeral.specs.Numeral.{numeral}
 
--- words with a space between them, and the line's end
-unfoldable pub line : List (List ℕ) → List ℕ
-line [] = ascii "\n"
-line (w ∷ []) = w ++ ascii "\n"
-line (w ∷ v ∷ ws) = w ++ (ascii " " ++ line (v ∷ ws))
+-- what stands in a line: numbers and words
+pub data Word : Type 0 where
+  number : ℕ → Word
+  word : String → Word
 
--- 256 bytes are left, which hold every line
-unfoldable pub hasRoom : ℕ → ℕ → Bool
-hasRoom len at = leb (at + 256) len
+abbrev pub wordText : Word → List ℕ
+wordText (number n) = numeral n
+wordText (word w) = ascii w
 
--- a line put at a place: before and after it the buffer is as it was; where there is no room nothing is put
-pub record Line (out : List ℕ) (at : ℕ) (t : List ℕ) (next : ℕ) (after : List ℕ) : Type 0 where
-  pub place : next ≡ pick (hasRoom (length out) at) (at + length t) at
-  pub text : after ≡ pick (hasRoom (length out) at) (take at out ++ t ++ drop (at + length t) out) out
+-- a space between them, and the line's end
+unfoldable pub lineText : List Word → List ℕ
+lineText [] = ascii "\n"
+lineText (w ∷ []) = wordText w ++ ascii "\n"
+lineText (w ∷ v ∷ ws) = wordText w ++ (ascii " " ++ lineText (v ∷ ws))
+
+-- line after line
+unfoldable pub textOf : List (List Word) → List ℕ
+textOf [] = []
+textOf (l ∷ ls) = lineText l ++ textOf ls

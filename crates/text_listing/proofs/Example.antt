@@ -3,21 +3,21 @@
 use mathlib.Core.Path.{_≡_, refl}
 use Rattle.text_numeral.specs.Ascii.{ascii}
 use Rattle.text_numeral.specs.Numeral.{numeral, numeralOf}
-use Rattle.text_line.specs.Line.{line}
+use Rattle.text_line.specs.Line.{lineText}
 use Rattle.text_listing.specs.Lines.{columnLine, refusedLine, fileRefusedLine, lastLine}
 
-pub names : columnLine ≡ ascii "chunk frame kind at size width height refresh hdr\n"
-unfolding columnLine
+pub names : lineText columnLine ≡ ascii "chunk frame kind at size width height refresh hdr\n"
+unfolding lineText
 names = refl
 
-pub empty-chunk : refusedLine 1 1 0 ≡ ascii "1 refused 1 frame 0\n"
-unfolding refusedLine line numeral numeralOf
+pub empty-chunk : lineText (refusedLine 1 1 0) ≡ ascii "1 refused 1 frame 0\n"
+unfolding lineText numeral numeralOf
 empty-chunk = refl
 
-pub counts : lastLine 2 1 ≡ ascii "2 chunks 1 refused\n"
-unfolding lastLine line numeral numeralOf
+pub counts : lineText (lastLine 2 1) ≡ ascii "2 chunks 1 refused\n"
+unfolding lineText numeral numeralOf
 counts = refl
 
-pub no-ivf : fileRefusedLine 7 ≡ ascii "file refused 7\n"
-unfolding fileRefusedLine line numeral numeralOf
+pub no-ivf : lineText (fileRefusedLine 7) ≡ ascii "file refused 7\n"
+unfolding lineText numeral numeralOf
 no-ivf = refl

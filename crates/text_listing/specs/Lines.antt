@@ -2,18 +2,27 @@
 -- Assumes nothing.
 use Prim.Native.Nat.{ℕ}
 use mathlib.Core.List.{List, [], _∷_}
-use Rattle.text_numeral.specs.Ascii.{ascii}
-use Rattle.text_numeral.specs.Numeral.{numeral}
-use Rattle.text_line.specs.Line.{line}
+use Rattle.text_line.specs.Line.{Word, number, word}
 
-unfoldable pub columnLine : List ℕ
-columnLine = ascii "chunk frame kind at size width height refresh hdr\n"
+abbrev pub columnLine : List Word
+columnLine =
+    word "chunk"
+    ∷ word "frame"
+    ∷ word "kind"
+    ∷ word "at"
+    ∷ word "size"
+    ∷ word "width"
+    ∷ word "height"
+    ∷ word "refresh"
+    ∷ word "hdr"
+    ∷ []
 
-unfoldable pub refusedLine : ℕ → ℕ → ℕ → List ℕ
-refusedLine chunk number frame = line (numeral chunk ∷ ascii "refused" ∷ numeral number ∷ ascii "frame" ∷ numeral frame ∷ [])
+-- a refused chunk, with docs/RULES.md's number and the frame number
+abbrev pub refusedLine : ℕ → ℕ → ℕ → List Word
+refusedLine chunk refusal frame = number chunk ∷ word "refused" ∷ number refusal ∷ word "frame" ∷ number frame ∷ []
 
-unfoldable pub fileRefusedLine : ℕ → List ℕ
-fileRefusedLine number = line (ascii "file" ∷ ascii "refused" ∷ numeral number ∷ [])
+abbrev pub fileRefusedLine : ℕ → List Word
+fileRefusedLine refusal = word "file" ∷ word "refused" ∷ number refusal ∷ []
 
-unfoldable pub lastLine : ℕ → ℕ → List ℕ
-lastLine chunks refused = line (numeral chunks ∷ ascii "chunks" ∷ numeral refused ∷ ascii "refused" ∷ [])
+abbrev pub lastLine : ℕ → ℕ → List Word
+lastLine chunks refused = number chunks ∷ word "chunks" ∷ number refused ∷ word "refused" ∷ []

@@ -1,15 +1,8 @@
 use Rattle.base_bytes.proofs.Append.{then}
-use Rattle.text_line.proofs.Room.{no-line, a-line}
-use Rattle.text_listing.proofs.Parts.{last-parts, last-short}
+use Rattle.text_listing.proofs.Parts.{last-parts}
 use borrow.Author.Needs.{needs}
 use Rattle.text_listing.proofs.last_line.Statement.{statement}
 use Rattle.text_listing.proofs.last_line.Tie as tie
-
-has-room-requires : tie.Need-has-room-requires
-has-room-requires c κs = search needs
-
-returns : tie.Need-returns
-returns c = no-line (c .before .has-room .ensures) (c .if1 .taken)
 
 put-number-requires : tie.Need-put-number-requires
 put-number-requires c κs = search needs
@@ -32,17 +25,14 @@ put-requires-2 c κs = search needs
 same-length : tie.Need-same-length
 same-length c = search needs
 
-returns-2 : tie.Need-returns-2
-returns-2 c =
-    let a = c .before .before .before .before .before .before .before .before .before .before .before .before .before .before .before .before .before .before .before .before .before .args in
-    a-line (c .before .before .before .before .before .before .before .before .before .before .before .before .before .before .before .before .before .before .before .has-room .ensures) (c .before .before .before .before .before .before .before .before .before .before .before .before .before .before .before .before .before .before .if1 .left) (last-short (a .chunks) (a .refused)) (rw (last-parts (a .chunks) (a .refused)) at (then (c .before .before .before .before .before .before .before .before .before .before .before .before .before .before .before .before .put-number .ensures) (then (c .before .before .before .before .before .before .before .before .before .before .before .put .ensures) (then (c .before .before .before .before .before .before .before .put-number2 .ensures) (c .before .before .put2 .ensures)))))
+returns : tie.Need-returns
+returns c =
+    rw last-parts at (then (c .before .before .before .before .before .before .before .before .before .before .before .before .before .before .before .before .put-number .ensures) (then (c .before .before .before .before .before .before .before .before .before .before .before .put .ensures) (then (c .before .before .before .before .before .before .before .put-number2 .ensures) (c .before .before .put2 .ensures))))
 
 pub last-line-spec : {M : Type 1} → statement M
 last-line-spec =
     tie.close
     (tie.spec
-    has-room-requires
-    returns
     put-number-requires
     slice-aggregate-put
     put-requires
@@ -50,4 +40,4 @@ last-line-spec =
     slice-aggregate-put-2
     put-requires-2
     same-length
-    returns-2)
+    returns)

@@ -1,15 +1,8 @@
 use Rattle.base_bytes.proofs.Append.{then}
-use Rattle.text_line.proofs.Room.{no-line, a-line}
-use Rattle.text_listing.proofs.Parts.{refused-parts, refused-short}
+use Rattle.text_listing.proofs.Parts.{refused-parts}
 use borrow.Author.Needs.{needs}
 use Rattle.text_listing.proofs.refused_line.Statement.{statement}
 use Rattle.text_listing.proofs.refused_line.Tie as tie
-
-has-room-requires : tie.Need-has-room-requires
-has-room-requires c κs = search needs
-
-returns : tie.Need-returns
-returns c = no-line (c .before .has-room .ensures) (c .if1 .taken)
 
 put-number-requires : tie.Need-put-number-requires
 put-number-requires c κs = search needs
@@ -35,17 +28,14 @@ put-last-requires c κs = search needs
 same-length : tie.Need-same-length
 same-length c = search needs
 
-returns-2 : tie.Need-returns-2
-returns-2 c =
-    let a = c .before .before .before .before .before .before .before .before .before .before .before .before .before .before .before .before .before .before .before .before .before .before .before .before .before .args in
-    a-line (c .before .before .before .before .before .before .before .before .before .before .before .before .before .before .before .before .before .before .before .before .before .before .before .has-room .ensures) (c .before .before .before .before .before .before .before .before .before .before .before .before .before .before .before .before .before .before .before .before .before .before .if1 .left) (refused-short (a .chunk) (a .number) (a .frame)) (rw (refused-parts (a .chunk) (a .number) (a .frame)) at (then (c .before .before .before .before .before .before .before .before .before .before .before .before .before .before .before .before .before .before .before .before .put-number .ensures) (then (c .before .before .before .before .before .before .before .before .before .before .before .before .before .before .before .put .ensures) (then (c .before .before .before .before .before .before .before .before .before .before .before .put-number2 .ensures) (then (c .before .before .before .before .before .before .put2 .ensures) (c .before .before .put-last .ensures))))))
+returns : tie.Need-returns
+returns c =
+    rw refused-parts at (then (c .before .before .before .before .before .before .before .before .before .before .before .before .before .before .before .before .before .before .before .before .put-number .ensures) (then (c .before .before .before .before .before .before .before .before .before .before .before .before .before .before .before .put .ensures) (then (c .before .before .before .before .before .before .before .before .before .before .before .put-number2 .ensures) (then (c .before .before .before .before .before .before .put2 .ensures) (c .before .before .put-last .ensures)))))
 
 pub refused-line-spec : {M : Type 1} → statement M
 refused-line-spec =
     tie.close
     (tie.spec
-    has-room-requires
-    returns
     put-number-requires
     slice-aggregate-put
     put-requires
@@ -54,4 +44,4 @@ refused-line-spec =
     put-requires-2
     put-last-requires
     same-length
-    returns-2)
+    returns)

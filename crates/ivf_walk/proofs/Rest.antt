@@ -1,0 +1,2 @@
+-- What a turn says, and what is then still to be said, is what was to be said.
+-- Assumes nothing.
