@@ -6,3 +6,4 @@ pub mod Table
 pub mod Inside
 pub mod Part
 pub mod Spelling
+pub mod Records
