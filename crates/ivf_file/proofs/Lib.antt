@@ -7,3 +7,4 @@ pub mod Inside
 pub mod Part
 pub mod Spelling
 pub mod Records
+pub mod Recording

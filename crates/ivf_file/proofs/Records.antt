@@ -1,14 +1,14 @@
 -- The records of a whole file.
 -- Assumes nothing.
 use Prim.Native.Nat.{ℕ, zero, suc, _+_, _≤_}
-use mathlib.Core.Path.{_≡_, refl, sym}
+use mathlib.Core.Path.{_≡_, refl}
 use mathlib.Core.List.{List}
 use native.Mathlib.Omega.{arith}
 use lib.ListN.{length}
 use Rattle.ivf_file.specs.declared.RecordRead.{RecordRead}
 use Rattle.ivf_file.specs.declared.RecordRead.the-variants as read
 use Rattle.ivf_file.specs.Record.{recordOf}
-use Rattle.ivf_file.specs.Records.{Records, noneBut, before, follow, recordsFrom}
+use Rattle.ivf_file.specs.Records.{Records, follow, recordsFrom}
 use Rattle.ivf_file.proofs.Table.{ends}
 use Rattle.ivf_file.proofs.Inside.{lies}
 
