@@ -6,3 +6,5 @@ pub mod Table
 pub mod Inside
 pub mod Part
 pub mod Spelling
+pub mod Records
+pub mod Recording

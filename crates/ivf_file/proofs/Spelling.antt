@@ -57,7 +57,7 @@ values-spelt v r b =
     rw (version, width, height, rate, scale, count, unused)
 
 -- a header that is spelled is read
-header-spelt : (v : FileValues) → FileRanged v → (b : List ℕ) → fileOf (spellHeader v ++ b) ≡ Header (v .header)
+pub header-spelt : (v : FileValues) → FileRanged v → (b : List ℕ) → fileOf (spellHeader v ++ b) ≡ Header (v .header)
 unfolding headerValues spellHeader spellLittle little
 header-spelt v r b =
     let e : headerValues (spellHeader v ++ b) ≡ v = values-spelt v r b in
@@ -69,7 +69,7 @@ pub one-header : (v w : FileValues) → FileRanged v → FileRanged w → (a b :
 one-header v w r q a b e = sym (values-spelt v r a) ∙ ap headerValues e ∙ values-spelt w q b
 
 -- a record that is spelled is read
-record-spelt : (a b : List ℕ) (time : ℕ) (bytes : List ℕ) → length bytes < 256 ^ 4 → time < 256 ^ 8 → recordOf (a ++ (spellRecord time bytes ++ b)) (length a) ≡ read.Record (recordFrom (length a) time bytes)
+pub record-spelt : (a b : List ℕ) (time : ℕ) (bytes : List ℕ) → length bytes < 256 ^ 4 → time < 256 ^ 8 → recordOf (a ++ (spellRecord time bytes ++ b)) (length a) ≡ read.Record (recordFrom (length a) time bytes)
 unfolding spellRecord recordAt
 record-spelt a b time bytes h k =
     let f = a ++ (spellRecord time bytes ++ b) in

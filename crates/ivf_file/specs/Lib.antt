@@ -3,3 +3,4 @@ pub mod Record
 pub mod Records
 pub mod Table
 pub mod Spelling
+pub mod Recording

@@ -1,5 +1,5 @@
--- `open` meets its contract: a walk of its MIR, by hand. A `RecordReader` is made of the file passed and 32, in the
--- result's local.
+-- `open` meets its contract: a walk of its MIR, by hand. A `RecordReader` is made of the file passed and the first
+-- record's place, in the result's local.
 -- A `&[u8]` is Copy, so what it owns is had twice: once for the file at exit, and once inside the result, beside the
 -- facts of the place.
 -- Assumes nothing.
@@ -38,6 +38,7 @@ use denote.Triple.Table.{entered}
 use denote.Triple.Walked.{says, Stays, stay-none-slice, walkOf, goes-none-slice, Walks, ends-at, walked, walk-meets}
 use denote.Exit.{yes}
 use Rattle.ivf_reader.specs.declared.RecordReader.{RecordReader}
+use Rattle.ivf_reader.specs.Reader as reader
 use Rattle.ivf_reader.proofs.RecordReader as T
 use Rattle.ivf_reader.proofs.RecordReader.Laws as T′
 use Rattle.ivf_reader.proofs.RecordReader.open.Key.{name as #ivf-reader·open}
@@ -57,7 +58,7 @@ module _ {M : Type 1} (𝓤 : URA M) (H : Heap 𝓤) (A : Atoms 𝓤) (W : Given
   v = sliceVal (s .ptr) (length (s .now))
 
   abbrev made : RecordReader
-  made = record { file = s; place = 32 }
+  made = reader.opened s
 
   abbrev at : List Val × Unit {0}
   at = (v ∷ [], tt)
@@ -74,7 +75,7 @@ module _ {M : Type 1} (𝓤 : URA M) (H : Heap 𝓤) (A : Atoms 𝓤) (W : Given
       suffices ! _ (ends-at 𝓤 H A opened.ended stayed (opened.clauses 𝓤 H A mem run) W (((κ, tt), (q, tt), tt, (s, tt), at), tt) (T′.lowered made) made (tt, tt) (tt, tt)) $ says ! refl $
       frame ! $ fsplit ! $ use1 W (‵ Own ⊛ ‵ Own) (shr-slice-copy 𝓤 H A W (named 0) κ u8 .twice s (v ∷ [])) $ split ! $ move ! (0 ∷ 2 ∷ []) $ fjoin ! $ frame ! $
       -- [what the file owns]: what the fields own together, of it and of the place's facts, is what the struct owns
-      nothing ! $ owned ! usize (Is usize) (uint-makes 𝓤 H A W w64) 32 _ (refl, lit< tt) $ fjoin ! $ move ! (1 ∷ 0 ∷ []) $ fjoin ! $ by ! (own-shut 𝓤 H A W (T.the-type α) (T′.the-laws α) (s, (32, tt)))
+      nothing ! $ owned ! usize (Is usize) (uint-makes 𝓤 H A W w64) (made .place) _ (refl, lit< tt) $ fjoin ! $ move ! (1 ∷ 0 ∷ []) $ fjoin ! $ by ! (own-shut 𝓤 H A W (T.the-type α) (T′.the-laws α) (s, (made .place, tt)))
 
   module _ (C : Calls 𝓤 H) (Λ : Loops 𝓤 H) where
     walk : Is (ShrSlice (named 0) κ u8) s (v ∷ []) → ent 𝓤 (onEntry 𝓤 H A opened.signature (κ, tt) (q, tt) (s, tt) at) (WpFn 𝓤 H C Λ code.function (v ∷ []) Post)
