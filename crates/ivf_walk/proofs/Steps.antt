@@ -7,7 +7,7 @@ use mathlib.Core.List.{List}
 use native.Mathlib.Omega.{arith}
 use lib.Dec.{eqb, ltb}
 use lib.ListN.{length}
-use borrow.Author.Tests.{lt-ltb, le-ltb, le-leb, lt-leb, ltb-true, ltb-false}
+use borrow.Author.Tests.{lt-ltb, le-ltb, le-leb, lt-leb, ltb-true, ltb-false, eqb-true}
 use Rattle.base_shared.specs.Choice.{pick}
 use Rattle.base_little.specs.Little.{little}
 use Rattle.ivf_file.specs.File.{headerBytes, fileOf}
@@ -48,36 +48,32 @@ module _ (left : ℕ) (s : List ℕ) where
 pub turned : {n m : Next} (v : Next) → n ≡ m → n ≡ v → turnBy v ≡ turnBy m
 turned v e h = ap turnBy (sym h ∙ e)
 
--- what a record that stands next takes is at hand
-abbrev pub AtHand : Next → ℕ → Type 0
-AtHand next.End m = Unit
-AtHand next.More m = Unit
-AtHand next.Cut m = Unit
-AtHand (next.Data n) m = 12 + n ≤ m
-AtHand (next.Long n) m = (12 ≤ m) × (65536 < n)
+-- what a record that stands next takes is at hand, and more is asked for only where that is little
+abbrev pub AtHand : Bool → ℕ → Next → Type 0
+AtHand ended m next.End = Unit
+AtHand ended m next.More = (ended ≡ false) × (m < 65548)
+AtHand ended m next.Cut = Unit
+AtHand ended m (next.Data n) = 12 + n ≤ m
+AtHand ended m (next.Long n) = 12 ≤ m
 
-empty-there : (ended : Bool) (m : ℕ) → AtHand (emptyBy ended) m
-empty-there true m = tt
-empty-there false m = tt
+by-end : (ended : Bool) {m : ℕ} (n : Next) → m < 65548 → AtHand ended m n → AtHand ended m (pick ended n next.More)
+by-end true n h k = k
+by-end false n h k = (refl, h)
 
-short-there : (ended : Bool) (m : ℕ) → AtHand (shortBy ended) m
-short-there true m = tt
-short-there false m = tt
-
-data-there : (s : List ℕ) (ended : Bool) (n : ℕ) → 12 ≤ length s → AtHand (dataBy s ended n) (length s)
+data-there : (s : List ℕ) (ended : Bool) (n : ℕ) → 12 ≤ length s → AtHand ended (length s) (dataBy s ended n)
 unfolding dataBy
 data-there s ended n h = go (ltb 65536 n) refl (ltb (length s) (12 + n)) refl
   where
-    go : (b : Bool) → ltb 65536 n ≡ b → (d : Bool) → ltb (length s) (12 + n) ≡ d → AtHand (pick b (next.Long n) (pick d (shortBy ended) (next.Data n))) (length s)
-    go true e d k = (h, ltb-true _ _ e)
-    go false e true k = short-there ended (length s)
+    go : (b : Bool) → ltb 65536 n ≡ b → (d : Bool) → ltb (length s) (12 + n) ≡ d → AtHand ended (length s) (pick b (next.Long n) (pick d (shortBy ended) (next.Data n)))
+    go true e d k = h
+    go false e true k = by-end ended next.Cut (omega (arith, ltb-false 65536 n e, ltb-true (length s) (12 + n) k)) tt
     go false e false k = ltb-false _ _ k
 
-pub next-there : (s : List ℕ) (ended : Bool) → AtHand (nextRecord s ended) (length s)
+pub next-there : (s : List ℕ) (ended : Bool) → AtHand ended (length s) (nextRecord s ended)
 unfolding nextRecord
-next-there s ended = go (eqb (length s) 0) (ltb (length s) 12) refl
+next-there s ended = go (eqb (length s) 0) refl (ltb (length s) 12) refl
   where
-    go : (a b : Bool) → ltb (length s) 12 ≡ b → AtHand (pick a (emptyBy ended) (pick b (shortBy ended) (dataBy s ended (little s 0 4)))) (length s)
-    go true b e = empty-there ended (length s)
-    go false true e = short-there ended (length s)
-    go false false e = data-there s ended (little s 0 4) (ltb-false _ _ e)
+    go : (a : Bool) → eqb (length s) 0 ≡ a → (b : Bool) → ltb (length s) 12 ≡ b → AtHand ended (length s) (pick a (emptyBy ended) (pick b (shortBy ended) (dataBy s ended (little s 0 4))))
+    go true z b e = by-end ended next.End (omega (arith, eqb-true (length s) 0 z)) tt
+    go false z true e = by-end ended next.Cut (omega (arith, ltb-true (length s) 12 e)) tt
+    go false z false e = data-there s ended (little s 0 4) (ltb-false _ _ e)

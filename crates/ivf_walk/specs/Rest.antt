@@ -11,6 +11,7 @@ use Rattle.ivf_walk.specs.declared.Stage.{Stage}
 use Rattle.ivf_walk.specs.declared.Stage.the-variants.{Start, Records, Skip, Over}
 use Rattle.ivf_walk.specs.declared.Event.{Event}
 use Rattle.ivf_walk.specs.declared.Event.the-variants.{More, Pass, NoFile, Opened, Data, TooLong, Cut, End}
+use Rattle.ivf_walk.specs.declared.Event.the-variants as event
 use Rattle.ivf_walk.specs.Said.{Said, noFile, opened, chunk, tooLong, cut, end, recordsSaid, fileSaid}
 
 -- from the record at p on
@@ -33,8 +34,9 @@ eventSaid s (Data n) = chunk (take n (drop 12 s)) ∷ []
 eventSaid s TooLong = tooLong ∷ []
 eventSaid s Cut = cut ∷ []
 eventSaid s End = end ∷ []
+eventSaid s event.Over = []
 
--- a place where a walk can stand
+-- a walk starts with the file
 abbrev pub Stands : Stage → ℕ → Type 0
 Stands Start p = p ≡ 0
 Stands Records p = Unit

@@ -16,6 +16,7 @@ use Rattle.ivf_walk.specs.declared.Stage.{Stage}
 use Rattle.ivf_walk.specs.declared.Stage.the-variants.{Start, Records, Skip, Over}
 use Rattle.ivf_walk.specs.declared.Event.{Event}
 use Rattle.ivf_walk.specs.declared.Event.the-variants.{More, Pass, NoFile, Opened, Data, TooLong, Cut, End}
+use Rattle.ivf_walk.specs.declared.Event.the-variants as event
 use Rattle.ivf_walk.specs.declared.Turn.{Turn}
 
 abbrev pub takes : Event → ℕ → Stage → Turn
@@ -47,4 +48,4 @@ abbrev pub turnOf : Stage → List ℕ → Bool → Turn
 turnOf Start s ended = startTurn s ended
 turnOf Records s ended = recordTurn s ended
 turnOf (Skip left) s ended = skipTurn left s ended
-turnOf Over s ended = takes Pass 0 Over
+turnOf Over s ended = takes event.Over 0 Over

@@ -33,6 +33,8 @@ pub enum Event {
     // docs/RULES.md's 8.
     Cut,
     End,
+    // Nothing: all is said already.
+    Over,
 }
 
 pub struct Turn {
@@ -145,7 +147,7 @@ pub fn next_turn(stage: Stage, s: &[u8], ended: bool) -> Turn
         Stage::Records => record_turn(s, ended),
         Stage::Skip(left) => skip_turn(left, s, ended),
         Stage::Over => Turn {
-            event: Event::Pass,
+            event: Event::Over,
             used: 0,
             stage: Stage::Over,
         },
