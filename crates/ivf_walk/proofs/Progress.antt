@@ -38,7 +38,7 @@ module _ (stage : Stage) (ended : Bool) (m : ℕ) where
   Brings More t = (ended ≡ false) × (m - t .used < 65548)
   Brings Pass t = turnsLeft (t .stage) + (m - t .used) < turnsLeft stage + m
   Brings Opened t = turnsLeft (t .stage) + (m - t .used) < turnsLeft stage + m
-  Brings (Data n) t = turnsLeft (t .stage) + (m - t .used) < turnsLeft stage + m
+  Brings (Data n) t = (12 + n ≤ m) × (turnsLeft (t .stage) + (m - t .used) < turnsLeft stage + m)
   Brings TooLong t = turnsLeft (t .stage) + (m - t .used) < turnsLeft stage + m
   Brings NoFile t = t .stage ≡ Over
   Brings Cut t = t .stage ≡ Over
@@ -70,7 +70,7 @@ record-moves : (ended : Bool) (m : ℕ) (n : Next) → AtHand ended m n → Move
 record-moves ended m next.End h = record { within = omega arith; brings = refl }
 record-moves ended m next.More h = record { within = omega arith; brings = (h .0, omega (arith, h .1)) }
 record-moves ended m next.Cut h = record { within = omega arith; brings = refl }
-record-moves ended m (next.Data n) h = record { within = h; brings = omega arith }
+record-moves ended m (next.Data n) h = record { within = h; brings = (h, omega arith) }
 record-moves ended m (next.Long n) h = record { within = h; brings = omega arith }
 
 skip-moves : (left : ℕ) (ended : Bool) (s : List ℕ) → Moves (Skip left) ended (length s) (skipTurn left s ended)
@@ -86,3 +86,6 @@ turn-moves Start ended s = start-moves ended s
 turn-moves Records ended s = record-moves ended (length s) (nextRecord s ended) (next-there s ended)
 turn-moves (Skip left) ended s = skip-moves left ended s
 turn-moves Over ended s = record { within = omega arith; brings = refl }
+
+pub data-at-hand : (stage : Stage) (ended : Bool) (s : List ℕ) (t : Turn) → t ≡ turnOf stage s ended → (n : ℕ) → t .event ≡ Data n → 12 + n ≤ length s
+data-at-hand stage ended s t e n d = (rw d at (rw (← e) at (turn-moves stage ended s)) .brings) .0

@@ -5,6 +5,7 @@ use mathlib.Core.List.{List, [], _∷_}
 use lib.ListN.{getD}
 use Rattle.base_shared.specs.Lists.{valuesOf}
 use Rattle.base_bits.specs.Refusal.{refusalNumber}
+use Rattle.base_types.specs.declared.header.Header.{Header}
 use Rattle.base_types.specs.Header.{defaultHeader}
 use Rattle.chunk_answer.specs.declared.Answer.{Answer}
 use Rattle.chunk_answer.specs.declared.Answer.the-variants as answer
@@ -13,8 +14,12 @@ use Rattle.text_line.specs.Line.{Word}
 use Rattle.text_listing.specs.Lines.{refusedLine}
 use Rattle.text_frame_line.specs.Frame.{frameLine}
 
+-- of frame i, by the frames' places, sizes and headers
+abbrev pub lineFrom : ℕ → List ℕ → List ℕ → List Header → ℕ → List Word
+lineFrom chunk places sizes headers i = frameLine chunk i (getD places i 0) (getD sizes i 0) (getD headers i defaultHeader)
+
 abbrev pub lineOfFrame : ℕ → ChunkRead → ℕ → List Word
-lineOfFrame chunk r i = frameLine chunk i (getD (r .at) i 0) (getD (r .size) i 0) (getD (r .headers) i defaultHeader)
+lineOfFrame chunk r = lineFrom chunk (r .at) (r .size) (r .headers)
 
 -- a line for each frame, or one for the refusal
 abbrev pub answerLines : ℕ → ChunkRead → Answer → List (List Word)
