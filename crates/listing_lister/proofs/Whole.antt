@@ -107,6 +107,40 @@ module _ (l : Lister) (s : List ℕ) (stage : Stage) (h : l .chunks + 1 < 2 ^ 64
   counts-after End = (omega arith, k)
   counts-after event.Over = (omega arith, k)
 
+few-turns : (stage : Stage) (m : ℕ) → turnsLeft stage + m < m + 3
+few-turns Start m = omega arith
+few-turns Records m = omega arith
+few-turns (Skip left) m = omega arith
+few-turns Over m = omega arith
+
+-- after the calls all is said, or, where the file hasn't ended, more is wanted and little is kept
+abbrev pub Little : Bool → Calls → Type 0
+Little ended c = (c .lister .stage ≡ Over) ⊎ ((ended ≡ false) × (length (c .kept) < 65548))
+
+abbrev Leaves : Lister → List ℕ → Bool → Calls → Type 0
+Leaves l s ended c = pickT (c .again) (turnsLeft (c .lister .stage) + length (c .kept) < turnsLeft (l .stage) + length s) (Little ended c)
+
+call-leaves : (l : Lister) (s : List ℕ) (ended : Bool) → Leaves l s ended (called l s ended)
+unfolding called
+call-leaves l s ended =
+    let t = turnAt l s ended in
+    rw (again-goes (t .event), stage-after l s (t .stage) (t .event), length-drop (t .used) s) (turn-moves (l .stage) ended s .brings)
+
+calls-leave : (n : ℕ) (l : Lister) (s : List ℕ) (ended : Bool) → turnsLeft (l .stage) + length s < n → Little ended (calls n l s ended)
+unfolding calls
+calls-leave zero l s ended h = absurd (omega arith)
+calls-leave (suc n) l s ended h =
+    let c = called l s ended in
+    go (called l s ended) (call-leaves l s ended) (c .again) refl (λ less. calls-leave n (c .lister) (c .kept) ended (omega (arith, less)))
+  where
+    go : (c : Calls) → Leaves l s ended c → (b : Bool) → c .again ≡ b → (turnsLeft (c .lister .stage) + length (c .kept) < turnsLeft (l .stage) + length s → Little ended (calls n (c .lister) (c .kept) ended))
+        → Little ended (pick b (behind (c .text) (calls n (c .lister) (c .kept) ended)) c)
+    go c h true e others = others (rw e at h)
+    go c h false e others = rw e at h
+
+pub keeps-little : (l : Lister) (s : List ℕ) (ended : Bool) → Little ended (fed l s ended)
+keeps-little l s ended = calls-leave (length s + 3) l s ended (few-turns (l .stage) (length s))
+
 -- what is at hand behind the bytes that are used
 drop-take : {A : Type 0} (k m : ℕ) (l : List A) → k ≤ m → drop k (take m l) ≡ take (m - k) (drop k l)
 drop-take zero m l h = let z : m - 0 ≡ m = omega arith in rw z
@@ -171,23 +205,20 @@ module _ (f : List ℕ) (small : length f < 2 ^ 64) where
     says : textLeft l p ≡ c .text ++ textLeft (c .lister) (p + used)
     standing : Standing (c .lister) (p + used)
 
-  -- it stops where all is said, or asks for more with little left
-  abbrev Stops : Bool → ℕ → Calls → Type 0
-  Stops ended left c = (c .lister .stage ≡ Over) ⊎ ((ended ≡ false) × (left < 65548))
-
-  record Called (l : Lister) (p m : ℕ) (ended : Bool) (c : Calls) : Type 0 where
-    comes : Comes l p m c
-    goes : pickT (c .again) (turnsLeft (c .lister .stage) + (m - comes .used) < turnsLeft (l .stage) + m) (Stops ended (m - comes .used) c)
-
-  one-call : (l : Lister) (p m : ℕ) → Standing l p → p + m ≤ length f → (ended : Bool) → (ended ≡ true → p + m ≡ length f) → Called l p m ended (called l (take m (drop p f)) ended)
+  one-call : (l : Lister) (p m : ℕ) → Standing l p → p + m ≤ length f → (ended : Bool) → (ended ≡ true → p + m ≡ length f) → Comes l p m (called l (take m (drop p f)) ended)
   unfolding called
-  one-call l p m here inside ended all =
-      let moved = moves l p m here inside ended all in
-      let t = turnAt l (take m (drop p f)) ended in
-      record {
-        comes = record { used = t .used; within = moved .within; kept = left-there l p m here inside ended all; says = call-says l p m here inside ended all; standing = call-stands l p m here inside ended all };
-        goes = rw (again-goes (t .event), stage-after l (take m (drop p f)) (t .stage) (t .event)) (moved .brings);
-      }
+  one-call l p m here inside ended all = record {
+    used = turn l p m here inside ended all .used;
+    within = moves l p m here inside ended all .within;
+    kept = left-there l p m here inside ended all;
+    says = call-says l p m here inside ended all;
+    standing = call-stands l p m here inside ended all;
+  }
+
+  no-call : (l : Lister) (p m : ℕ) (again : Bool) → Standing l p → Comes l p m (record { text = []; lister = l; kept = take m (drop p f); again = again })
+  no-call l p m again here =
+      let z : m - 0 ≡ m = omega arith in
+      record { used = 0; within = omega arith; kept = rw (z, add-zero p); says = rw (add-zero p); standing = rw (add-zero p) here }
 
   module _ {l : Lister} {p m : ℕ} {c d : Calls} (a : Comes l p m c) (b : Comes (c .lister) (p + a .used) (m - a .used) d) where
     then-comes : Comes l p m (behind (c .text) d)
@@ -202,40 +233,25 @@ module _ (f : List ℕ) (small : length f < 2 ^ 64) where
           standing = rw o at (b .standing);
         }
 
-  record Fed (l : Lister) (p m : ℕ) (ended : Bool) (c : Calls) : Type 0 where
-    comes : Comes l p m c
-    stops : Stops ended (m - comes .used) c
-
-  calls-say : (n : ℕ) (l : Lister) (p m : ℕ) → Standing l p → p + m ≤ length f → (ended : Bool) → (ended ≡ true → p + m ≡ length f) → turnsLeft (l .stage) + m < n
-      → Fed l p m ended (calls n l (take m (drop p f)) ended)
-  unfolding calls then-comes
-  calls-say zero l p m here inside ended all h = absurd (omega arith)
-  calls-say (suc n) l p m here inside ended all h =
+  calls-say : (n : ℕ) (l : Lister) (p m : ℕ) → Standing l p → p + m ≤ length f → (ended : Bool) → (ended ≡ true → p + m ≡ length f) → Comes l p m (calls n l (take m (drop p f)) ended)
+  unfolding calls
+  calls-say zero l p m here inside ended all = no-call l p m true here
+  calls-say (suc n) l p m here inside ended all =
       let one = one-call l p m here inside ended all in
       let c = called l (take m (drop p f)) ended in
-      go one (c .again) refl (λ less. calls-say n (c .lister) (p + one .comes .used) (m - one .comes .used) (one .comes .standing) (omega (arith, one .comes .within)) ended (λ z. omega (arith, one .comes .within, all z)) (omega (arith, less)))
+      go one (c .again) (calls-say n (c .lister) (p + one .used) (m - one .used) (one .standing) (omega (arith, one .within)) ended (λ z. omega (arith, one .within, all z)))
     where
-      go : {c : Calls} (one : Called l p m ended c) (b : Bool) → c .again ≡ b
-          → (turnsLeft (c .lister .stage) + (m - one .comes .used) < turnsLeft (l .stage) + m → Fed (c .lister) (p + one .comes .used) (m - one .comes .used) ended (calls n (c .lister) (take (m - one .comes .used) (drop (p + one .comes .used) f)) ended))
-          → Fed l p m ended (pick b (behind (c .text) (calls n (c .lister) (c .kept) ended)) c)
-      go {c} one true e others =
-          let later = others (rw e at (one .goes)) in
-          let z : m - one .comes .used - later .comes .used ≡ m - (one .comes .used + later .comes .used) = omega arith in
-          rw (one .comes .kept) (record { comes = then-comes (one .comes) (later .comes); stops = rw z at (later .stops) })
-      go {c} one false e others = record { comes = one .comes; stops = rw e at (one .goes) }
-
-  few-turns : (stage : Stage) (m : ℕ) → turnsLeft stage + m < m + 3
-  few-turns Start m = omega arith
-  few-turns Records m = omega arith
-  few-turns (Skip left) m = omega arith
-  few-turns Over m = omega arith
+      go : {c : Calls} (one : Comes l p m c) (b : Bool) → Comes (c .lister) (p + one .used) (m - one .used) (calls n (c .lister) (take (m - one .used) (drop (p + one .used) f)) ended)
+          → Comes l p m (pick b (behind (c .text) (calls n (c .lister) (c .kept) ended)) c)
+      go one true later = rw (one .kept) (then-comes one later)
+      go one false later = one
 
   -- all that is at hand is fed
-  fed-says : (l : Lister) (p : ℕ) (s others : List ℕ) → Standing l p → p ≤ length f → s ++ others ≡ drop p f → (ended : Bool) → (ended ≡ true → others ≡ []) → Fed l p (length s) ended (fed l s ended)
+  fed-says : (l : Lister) (p : ℕ) (s others : List ℕ) → Standing l p → p ≤ length f → s ++ others ≡ drop p f → (ended : Bool) → (ended ≡ true → others ≡ []) → Comes l p (length s) (fed l s ended)
   fed-says l p s others here within e ended none =
       let there : take (length s) (drop p f) ≡ s = rw (← e) (take-append-seam s others) in
       let sizes : length s + length others ≡ length f - p = sym (length-append s others) ∙ ap length e ∙ length-drop p f in
-      rw there at (calls-say (length s + 3) l p (length s) here (omega arith) ended (λ z. omega (arith, ap length (none z))) (few-turns (l .stage) (length s)))
+      rw there at (calls-say (length s + 3) l p (length s) here (omega arith) ended (λ z. omega (arith, ap length (none z))))
 
   -- what is kept is what stands before the blocks that are still to come
   kept-there : (p m : ℕ) (others : List ℕ) (c : Calls) (l : Lister) (a : Comes l p m c) → drop (p + m) f ≡ others → c .kept ++ others ≡ drop (p + a .used) f
@@ -251,16 +267,16 @@ module _ (f : List ℕ) (small : length f < 2 ^ 64) where
   unfolding arrives joined
   arrives-say [] l p kept here within e =
       let c = fed-says l p kept [] here within e true (λ z. refl) in
-      let over : fed l kept true .lister .stage ≡ Over = ⊎-elim (λ z. z) (λ z. absurd (true-false (z .0))) (c .stops) in
-      sym (c .comes .says ∙ rw (over-silent (fed l kept true .lister) (p + c .comes .used) over) (append-nil (fed l kept true .text)))
+      let over : fed l kept true .lister .stage ≡ Over = ⊎-elim (λ z. z) (λ z. absurd (true-false (z .0))) (keeps-little l kept true) in
+      sym (c .says ∙ rw (over-silent (fed l kept true .lister) (p + c .used) over) (append-nil (fed l kept true .text)))
   arrives-say (block ∷ others) l p kept here within e =
       let s = kept ++ block in
       let e′ : s ++ joined others ≡ drop p f = append-assoc kept block (joined others) ∙ e in
       let c = fed-says l p s (joined others) here within e′ false (λ z. absurd (true-false (sym z))) in
       let sizes : length s + length (joined others) ≡ length f - p = sym (length-append s (joined others)) ∙ ap length e′ ∙ length-drop p f in
       let come : drop (p + length s) f ≡ joined others = sym (drop-drop (length s) p f) ∙ rw (← e′) (drop-append-seam s (joined others)) in
-      let later = arrives-say others (fed l s false .lister) (p + c .comes .used) (fed l s false .kept) (c .comes .standing) (omega (arith, c .comes .within)) (kept-there p (length s) (joined others) (fed l s false) l (c .comes) come) in
-      rw later (sym (c .comes .says))
+      let later = arrives-say others (fed l s false .lister) (p + c .used) (fed l s false .kept) (c .standing) (omega (arith, c .within)) (kept-there p (length s) (joined others) (fed l s false) l c come) in
+      rw later (sym (c .says))
 
 -- the theorem
 pub however : (blocks : List (List ℕ)) → length (joined blocks) < 2 ^ 64 → putOut blocks ≡ listing (joined blocks)
