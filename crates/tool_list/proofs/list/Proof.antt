@@ -6,22 +6,28 @@ use Rattle.tool_list.proofs.list.Statement.{statement}
 use Rattle.tool_list.proofs.list.Tie as tie
 
 abbrev Inv-loop : tie.InvT-loop
-Inv-loop input₀ out₀ run₀ state₀ left₀ input out run state left = (length input ≡ length input₀) × (length out ≡ length out₀)
+Inv-loop input₀ out₀ run₀ lister₀ left₀ input out run lister left = (length input ≡ length input₀) × (length out ≡ length out₀)
 
 abbrev μ-loop : tie.MeasureT-loop
-μ-loop input₀ out₀ run₀ state₀ left₀ input out run state left = left
+μ-loop input₀ out₀ run₀ lister₀ left₀ input out run lister left = left
 
-open-requires : tie.Need-open-requires Inv-loop μ-loop
-open-requires c κs = search needs
+new-requires : tie.Need-new-requires Inv-loop μ-loop
+new-requires c κs = search needs
 
-fresh-requires : tie.Need-fresh-requires Inv-loop μ-loop
-fresh-requires c κs = search needs
+new-requires-2 : tie.Need-new-requires-2 Inv-loop μ-loop
+new-requires-2 c κs = search needs
 
 loop-holds : tie.Need-loop-holds Inv-loop μ-loop
 loop-holds c = search needs
 
-turn-requires : tie.Need-turn-requires Inv-loop μ-loop
-turn-requires c κs = search needs
+fed-requires : tie.Need-fed-requires Inv-loop μ-loop
+fed-requires c κs = search needs
+
+moved-requires : tie.Need-moved-requires Inv-loop μ-loop
+moved-requires c κs = search needs
+
+served-requires : tie.Need-served-requires Inv-loop μ-loop
+served-requires c κs = search needs
 
 sub-left : tie.Need-sub-left Inv-loop μ-loop
 sub-left c = search needs
@@ -50,10 +56,12 @@ list-spec =
     (tie.spec
     Inv-loop
     μ-loop
-    open-requires
-    fresh-requires
+    new-requires
+    new-requires-2
     loop-holds
-    turn-requires
+    fed-requires
+    moved-requires
+    served-requires
     sub-left
     loop-less
     loop-again
