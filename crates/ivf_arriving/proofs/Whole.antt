@@ -22,7 +22,7 @@ use Rattle.ivf_file.proofs.Part.{little-part}
 use Rattle.ivf_arriving.specs.declared.Next.{Next}
 use Rattle.ivf_arriving.specs.declared.Next.the-variants.{End, More, Cut, Data, Long}
 use Rattle.ivf_arriving.specs.Next.{nextRecord, nextNumber}
-use Rattle.ivf_arriving.specs.Whole.{nextAt, Right, TooFew, Over}
+use Rattle.ivf_arriving.specs.Whole.{nextAt, Right, TooFew, TooMuch}
 use Rattle.ivf_arriving.proofs.Cases.{none-there, header-cut, too-long, data-cut, data-there}
 
 -- an answer that only the file's end allows, and one that nothing changes
@@ -150,11 +150,11 @@ module _ (f : List ℕ) (p : ℕ) where
   abbrev number : ℕ
   number = nextNumber (cutShort f p) (nextAt f p)
 
-  numbered : ((number ≡ 8) × RecordWhen read.Cut f p) ⊎ (((number ≡ 9) × Over f p) ⊎ ((number ≡ 0) × (RecordWhen read.Cut f p → ⊥) × (Over f p → ⊥)))
+  numbered : ((number ≡ 8) × RecordWhen read.Cut f p) ⊎ (((number ≡ 9) × TooMuch f p) ⊎ ((number ≡ 0) × (RecordWhen read.Cut f p → ⊥) × (TooMuch f p → ⊥)))
   unfolding cutShort
   numbered = go (stands f p (length f))
     where
-      go : Stands f p (length f) → ((number ≡ 8) × RecordWhen read.Cut f p) ⊎ (((number ≡ 9) × Over f p) ⊎ ((number ≡ 0) × (RecordWhen read.Cut f p → ⊥) × (Over f p → ⊥)))
+      go : Stands f p (length f) → ((number ≡ 8) × RecordWhen read.Cut f p) ⊎ (((number ≡ 9) × TooMuch f p) ⊎ ((number ≡ 0) × (RecordWhen read.Cut f p → ⊥) × (TooMuch f p → ⊥)))
       go (nothing z) = inr (inr (rw (← end-stands f p z), λ x. x .0 z, λ x. x .0 (inl (omega arith))))
       go (header-part n h) = inl (rw (← header-cut-stands f p n h), (n, inl h))
       go (long h l) =
@@ -171,13 +171,13 @@ module _ (f : List ℕ) (p : ℕ) where
     λ h. ⊎-elim (λ x. x .0) (⊎-elim (λ x. absurd (x .1 .0 (h .1))) (λ x. absurd (x .1 h))) numbered,
   )
 
-  pub next-9 : (number ≡ 9) ↔ Over f p
+  pub next-9 : (number ≡ 9) ↔ TooMuch f p
   next-9 = (
     λ e. ⊎-elim (λ x. absurd (omega (arith, x .0))) (⊎-elim (λ x. x .1) (λ x. absurd (omega (arith, x .0)))) numbered,
     λ h. ⊎-elim (λ x. absurd (h .0 (x .1 .1))) (⊎-elim (λ x. x .0) (λ x. absurd (x .2 h))) numbered,
   )
 
-  pub next-0 : (number ≡ 0) ↔ ((RecordWhen read.Cut f p → ⊥) × (Over f p → ⊥))
+  pub next-0 : (number ≡ 0) ↔ ((RecordWhen read.Cut f p → ⊥) × (TooMuch f p → ⊥))
   next-0 = (
     λ e. ⊎-elim (λ x. absurd (omega (arith, x .0))) (⊎-elim (λ x. absurd (omega (arith, x .0))) (λ x. (x .1, x .2))) numbered,
     λ h. ⊎-elim (λ x. absurd (h .0 (x .1))) (⊎-elim (λ x. absurd (h .1 (x .1))) (λ x. x .0)) numbered,

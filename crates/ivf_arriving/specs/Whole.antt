@@ -39,5 +39,5 @@ abbrev pub TooFew : List ℕ → ℕ → ℕ → Type 0
 TooFew f p m = (m < 12) ⊎ ((dataLength f p ≤ 65536) × (m < 12 + dataLength f p))
 
 -- 9: a whole record holds over 65,536 data bytes
-abbrev pub Over : List ℕ → ℕ → Type 0
-Over f p = (CutShort f p → ⊥) × (65536 < dataLength f p)
+abbrev pub TooMuch : List ℕ → ℕ → Type 0
+TooMuch f p = (CutShort f p → ⊥) × (65536 < dataLength f p)
