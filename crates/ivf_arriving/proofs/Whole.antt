@@ -127,10 +127,13 @@ module _ (f : List ℕ) (p m : ℕ) (inside : p + m ≤ length f) where
   abbrev Asks : Type 0
   Asks = nextRecord (take m (drop p f)) false ≡ More
 
-  asked : (Asks × TooFew f p m) ⊎ ((Asks → ⊥) × (TooFew f p m → ⊥))
+  abbrev Asked : Type 0
+  Asked = (Asks × TooFew f p m) ⊎ ((Asks → ⊥) × (TooFew f p m → ⊥))
+
+  asked : Asked
   asked = go (stands f p (p + m))
     where
-      go : Stands f p (p + m) → (Asks × TooFew f p m) ⊎ ((Asks → ⊥) × (TooFew f p m → ⊥))
+      go : Stands f p (p + m) → Asked
       go (nothing z) = inl (sym (nothing-at-hand false z), inl (omega arith))
       go (header-part n h) = inl (sym (header-at-hand false n h), inl (omega arith))
       go (long h l) = inr (long-not-more (long-at-hand false h l), ⊎-elim (λ t. omega arith) (λ t. omega (arith, t .0)))
@@ -150,11 +153,14 @@ module _ (f : List ℕ) (p : ℕ) where
   abbrev number : ℕ
   number = nextNumber (cutShort f p) (nextAt f p)
 
-  numbered : ((number ≡ 8) × RecordWhen read.Cut f p) ⊎ (((number ≡ 9) × TooMuch f p) ⊎ ((number ≡ 0) × (RecordWhen read.Cut f p → ⊥) × (TooMuch f p → ⊥)))
+  abbrev Numbered : Type 0
+  Numbered = ((number ≡ 8) × RecordWhen read.Cut f p) ⊎ (((number ≡ 9) × TooMuch f p) ⊎ ((number ≡ 0) × (RecordWhen read.Cut f p → ⊥) × (TooMuch f p → ⊥)))
+
+  numbered : Numbered
   unfolding cutShort
   numbered = go (stands f p (length f))
     where
-      go : Stands f p (length f) → ((number ≡ 8) × RecordWhen read.Cut f p) ⊎ (((number ≡ 9) × TooMuch f p) ⊎ ((number ≡ 0) × (RecordWhen read.Cut f p → ⊥) × (TooMuch f p → ⊥)))
+      go : Stands f p (length f) → Numbered
       go (nothing z) = inr (inr (rw (← end-stands f p z), λ x. x .0 z, λ x. x .0 (inl (omega arith))))
       go (header-part n h) = inl (rw (← header-cut-stands f p n h), (n, inl h))
       go (long h l) =
