@@ -1,11 +1,13 @@
 #!/usr/bin/env python3
-"""Compares the calls that no other program makes with the Rust and with docs/RULES.md: the enums' try_from, choose_picture and read_record.
+"""Compares the calls that no other program makes with the Rust and with docs/RULES.md: the enums' try_from, choose_picture, read_record
+and RecordReader.
 
-Usage: compare.py [--program PROGRAM] [--judge JUDGE] [--write DIR]
+Usage: compare.py [--program PROGRAM] [--records RECORDS] [--judge JUDGE] [--write DIR]
 
 PROGRAM is the proved program test_calls (default target/bin/test_calls, made by `rt check test_calls`);
-crates/test_calls/src/main.rt says what it reads. JUDGE is our driver over the Rust (tests/judge), which has try_from and the records of a
-whole IVF file; without it those are held to docs/RULES.md alone. The same run makes the same calls.
+crates/test_calls/src/main.rt says what it reads. RECORDS is the program test_records.rt.txt beside this file (default
+target/programs/test_records, made by `tests/programs/build test_records`). JUDGE is our driver over the Rust (tests/judge), which has
+try_from and the records of an IVF file; without it those are held to docs/RULES.md alone. The same run makes the same calls.
 --write DIR makes crates/test_calls' stdin and stdout, a few of the calls with docs/RULES.md's answers.
 
 Exit 0 if all agrees, 1 on a difference."""
@@ -25,8 +27,9 @@ sys.path.insert(0, os.path.join(ROOT, "tests", "reader"))
 import inputs
 import program
 
-# The program's buffer.
+# The program's buffer, and that of test_records.
 LONGEST = 65536
+LONGEST_FILE = 262144
 LARGE = (2 ** 31, 2 ** 63, 2 ** 64 - 1)
 
 
@@ -86,6 +89,48 @@ def record_answer(file, place):
     return b"%d %d %d %d" % (length, time, place + 12, place + 12 + length)
 
 
+def answers(file):
+    """What a RecordReader answers: each record of a file, and its end or the cut record, twice."""
+    place, lines = 32, []
+    while True:
+        answer = record_answer(file, place)
+        if answer in (b"end", b"cut"):
+            return [*lines, b"%s %s" % (answer, answer)]
+        lines.append(answer)
+        place = int(answer.split()[3])
+
+
+def whole_files(recordings):
+    """The recordings, each less the last 1 to 14 bytes; two small files cut everywhere; a length that passes every end."""
+    for file in recordings:
+        yield from (file[:len(file) - n] for n in range(15))
+    for file in (small_file(), min(recordings, key=len)):
+        yield from (file[:n] for n in range(len(file)))
+    yield bytes(32) + b"\xff" * 4 + bytes(8)
+
+
+def rust_answer(file, lines):
+    """What the Rust prints where docs/RULES.md has these lines: it ends on no or on 1 to 3 bytes, and panics on other cut records."""
+    places = [b" ".join(line.split()[2:]) for line in lines[:-1]]
+    left = len(file) - (int(places[-1].split()[1]) if places else 32)
+    return [*places, b"end" if left < 4 else b"panic"]
+
+
+def reader_differences(files, words, judge, show=3):
+    """Where a RecordReader's answers aren't docs/RULES.md's, and where the Rust's aren't those expected."""
+    wanted = [answers(file) for file in files]
+    got = run(words, b"".join(struct.pack("<I", len(file)) + file for file in files)).split(b"\n")[:-1]
+    want = [b" " + line for lines in wanted for line in lines]
+    wrong = [(a, b) for a, b in zip(got, want) if a != b] + [(b"", b"")] * abs(len(got) - len(want))
+    for a, b in wrong[:show]:
+        print(f"RecordReader:{a.decode()}, docs/RULES.md{b.decode()}")
+    differing = [file for file, lines in zip(files, wanted)
+                 if judge and run([judge, "--packets"], file).splitlines() != rust_answer(file, lines)]
+    for file in differing[:show]:
+        print(f"the Rust's iterator on a file of {len(file)} bytes, {file[32:64].hex()}")
+    return len(wrong) + len(differing)
+
+
 def records(file):
     """A call at each record of a file, and at its end."""
     place = 32
@@ -131,7 +176,7 @@ def rust_differences(judge, numbers, files):
     wrong = sum(call.answer != line for call, line in zip(numbers, words, strict=True))
     for file, calls in files:
         places = [b" ".join(call.answer.split()[2:]) for call in calls[:-1]]
-        wrong += run([judge, "--packets"], file).splitlines() != places
+        wrong += run([judge, "--packets"], file).splitlines() != [*places, b"end"]
     return wrong
 
 
@@ -148,6 +193,7 @@ def write_example(folder):
 def main():
     options = argparse.ArgumentParser(description=__doc__, formatter_class=argparse.RawDescriptionHelpFormatter)
     options.add_argument("--program", default=program.built("test_calls"))
+    options.add_argument("--records", default=os.path.join(ROOT, "target", "programs", "test_records"))
     options.add_argument("--judge")
     options.add_argument("--write")
     given = options.parse_args()
@@ -157,20 +203,25 @@ def main():
     words = program.command(given.program, program.kit_tools())
 
     numbers = [number_call(n) for n in NUMBERS]
-    files = []
+    recordings = []
     for path in inputs.recording_paths():
         with open(path, "rb") as file:
-            data = file.read()
-        if len(data) + 9 <= LONGEST:
-            files.append((data, list(records(data))))
+            recordings.append(file.read())
+    files = [(data, list(records(data))) for data in recordings if len(data) + 9 <= LONGEST]
     read = [call for _, calls in files for call in calls]
     groups = {"try_from": numbers, "choose_picture": list(choices(random.Random(7))), "read_record": read + list(damaged())}
     wrong = sum(differences(name, calls, words) for name, calls in groups.items())
     held = "docs/RULES.md"
     if given.judge:
         wrong += rust_differences(given.judge, numbers, files)
-        held = f"docs/RULES.md, try_from and the records of {len(files)} whole files with the Rust too"
+        held = f"docs/RULES.md, try_from and the records of {len(files)} whole files and of those of RecordReader with the Rust too"
     counts = ", ".join(f"{len(calls)} of {name}" for name, calls in groups.items())
+    if os.path.exists(given.records):
+        read = [file for file in whole_files(recordings) if len(file) <= LONGEST_FILE]
+        wrong += reader_differences(read, program.command(given.records, program.kit_tools()), given.judge)
+        counts += f", {len(read)} whole files by RecordReader"
+    else:
+        print(f"skipped: no {given.records}, so RecordReader is not run")
     print(f"calls: {counts}; compared with {held}: {wrong} differences")
     return 1 if wrong else 0
 

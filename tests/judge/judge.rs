@@ -772,14 +772,20 @@ fn run_hex(options: &Options, out: &mut impl Write) -> io::Result<()> {
     }
 }
 
-/// Prints where the data of each record starts and ends, as the crate's own iterator has it. That panics on a cut record.
+/// Prints where the data of each record starts and ends, as the crate's own iterator has it, and how that stops.
 fn run_packets(options: &Options, out: &mut impl Write) -> io::Result<()> {
     let file = read_all(&options.file)?;
-    for packet in IvfIterator::new(&file) {
-        let start = packet.as_ptr() as usize - file.as_ptr() as usize;
-        writeln!(out, "{} {}", start, start + packet.len())?;
+    let mut packets = IvfIterator::new(&file);
+    loop {
+        match catch_unwind(AssertUnwindSafe(|| packets.next())) {
+            Ok(Some(packet)) => {
+                let start = packet.as_ptr() as usize - file.as_ptr() as usize;
+                writeln!(out, "{} {}", start, start + packet.len())?;
+            }
+            Ok(None) => return writeln!(out, "end"),
+            Err(_) => return writeln!(out, "panic"),
+        }
     }
-    Ok(())
 }
 
 /// The number of the variant that `try_from` gives, or - for an error.

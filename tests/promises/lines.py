@@ -90,7 +90,8 @@ PARTS = {
         {"": "IVF files"},
         "ivf_file/src/lib.parse_ivf_header ivf_file/specs/File.fileNumber ivf_file/src/lib.read_record "
         "ivf_file/specs/Record.recordNumber ivf_file/src/lib.record_length ivf_reader/src/lib.RecordReader::* "
-        "ivf_arriving/src/lib.next_record",
+        "ivf_arriving/src/lib.next_record ivf_arriving/specs/Next.nextNumber ivf_file/specs/File.fileFrame "
+        "ivf_file/specs/Records.recordsOf ivf_reader/specs/Yields.yields ivf_reader/specs/Yields.allInTurn",
         [("", "base_shared/* base_little/* ivf_*/*")]),
     "listing": Part(
         {"": "the listing"},

@@ -25,3 +25,11 @@ dataBy s ended n = pick (ltb 65536 n) (Long n) (pick (ltb (length s) (12 + n)) (
 -- a record's header has 12 bytes, the first 4 of which are the length of its data
 unfoldable pub nextRecord : List ℕ → Bool → Next
 nextRecord s ended = pick (eqb (length s) 0) (emptyBy ended) (pick (ltb (length s) 12) (shortBy ended) (dataBy s ended (little s 0 4)))
+
+-- docs/RULES.md's number, 0 where there is none, of a record that the file cuts short or not: 8 precedes 9
+abbrev pub nextNumber : Bool → Next → ℕ
+nextNumber cut Cut = 8
+nextNumber cut (Long n) = pick cut 8 9
+nextNumber cut End = 0
+nextNumber cut More = 0
+nextNumber cut (Data n) = 0

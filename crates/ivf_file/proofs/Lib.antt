@@ -8,3 +8,4 @@ pub mod Part
 pub mod Spelling
 pub mod Records
 pub mod Recording
+pub mod Example

@@ -13,7 +13,7 @@ use Rattle.ivf_file.specs.declared.FileRead.{FileRead}
 use Rattle.ivf_file.specs.declared.FileRead.the-variants.{Header, Refused}
 use Rattle.ivf_file.specs.declared.RecordRead.{RecordRead}
 use Rattle.ivf_file.specs.declared.RecordRead.the-variants as read
-use Rattle.ivf_file.specs.File.{dkif, vp90, standsAt, headerSize, fileOf, fileNumber}
+use Rattle.ivf_file.specs.File.{dkif, vp90, standsAt, headerSize, fileHeaderOf, fileOf, fileNumber}
 use Rattle.ivf_file.specs.Record.{dataEnd, recordOf, recordNumber}
 use Rattle.ivf_file.specs.Table.{Lacks, BadFile, FileWhen, CutShort, RecordWhen}
 use Rattle.ivf_file.proofs.Stands.{stands-part, part-stands}
@@ -64,6 +64,13 @@ module _ (f : List ℕ) where
       says Refused h e = h
       says (Header x) h e = absurd (omega arith)
 
+  pub file-number-0 : (fileNumber (fileOf f) ≡ 0) ↔ (BadFile f → ⊥)
+  file-number-0 = (says (fileOf f) file-answered, λ h. rw (file-exactly (Header (fileHeaderOf f)) .1 (h, refl)))
+    where
+      says : (a : FileRead) → FileWhen a f → fileNumber a ≡ 0 → BadFile f → ⊥
+      says Refused h e = absurd (omega arith)
+      says (Header x) h e = h .0
+
 module _ (f : List ℕ) (p : ℕ) where
   record-answered : RecordWhen (recordOf f p) f p
   record-answered = go (eqb p (length f)) refl (ltb (length f) (dataEnd f p)) refl
@@ -101,6 +108,19 @@ module _ (f : List ℕ) (p : ℕ) where
       says read.End h e = absurd (omega arith)
       says read.Cut h e = h
       says (read.Record x) h e = absurd (omega arith)
+
+  pub record-number-0 : (recordNumber (recordOf f p) ≡ 0) ↔ (RecordWhen read.Cut f p → ⊥)
+  record-number-0 = (says (recordOf f p) record-answered, back (recordOf f p) record-answered)
+    where
+      says : (a : RecordRead) → RecordWhen a f p → recordNumber a ≡ 0 → RecordWhen read.Cut f p → ⊥
+      says read.End h e k = k .0 h
+      says read.Cut h e k = absurd (omega arith)
+      says (read.Record x) h e k = h .0 (k .1)
+
+      back : (a : RecordRead) → RecordWhen a f p → (RecordWhen read.Cut f p → ⊥) → recordNumber a ≡ 0
+      back read.End h k = refl
+      back read.Cut h k = absurd (k h)
+      back (read.Record x) h k = refl
 
   -- a place past the file's end gives 8
   pub past-the-end : length f < p → recordOf f p ≡ read.Cut

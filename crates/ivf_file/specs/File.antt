@@ -43,3 +43,7 @@ fileOf f = pick (isIvf f) (Header (fileHeaderOf f)) Refused
 abbrev pub fileNumber : FileRead → ℕ
 fileNumber (Header h) = 0
 fileNumber Refused = 7
+
+-- the frame number that comes with docs/RULES.md's 7, 8 and 9
+abbrev pub fileFrame : ℕ
+fileFrame = 0
