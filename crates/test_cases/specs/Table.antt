@@ -78,7 +78,8 @@ Refused r st n i =
     × (r .headers ≡ replicate 8 defaultHeader)
     × (r .state ≡ st)
 
--- the frame's bits begin with the spelling of some field values, which has n bits
+-- the frame's bits begin with the spelling of some field values, which has n bits; no other values fit (`one-set` of
+-- header_parser)
 abbrev pub Bits : List ℕ → List FrameSize → ℕ → Type 0
 Bits s slots n = (v : HeaderValues) × Spelled slots s v × (length (flat (headerFields slots v)) ≡ n)
 
@@ -153,7 +154,7 @@ halfGood = k ++ (0x00 ∷ 0xC1 ∷ 0x0E ∷ 0x01 ∷ 0xC1 ∷ [])
 abbrev pub afterK : ReaderState
 afterK = chunkOf k freshState .state
 
--- as after K, with a size of its own in each slot
+-- eight sizes, and the state after K with these in its slots
 abbrev pub sizes : List FrameSize
 sizes = 16 by 24 ∷ 32 by 40 ∷ 48 by 56 ∷ 64 by 72 ∷ 80 by 88 ∷ 96 by 104 ∷ 112 by 120 ∷ 128 by 136 ∷ []
 
