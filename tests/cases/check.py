@@ -93,6 +93,17 @@ def intra(wide, slot):
     return sized(wide, frame_type=1, show_frame=0, intra_only=1, refresh_frame_flags=1 << slot)
 
 
+def inter(slots, flags, refresh):
+    return spelled(frame_type=1, ref_frame_idx=slots, found_ref=flags, refresh_frame_flags=refresh,
+                   is_filter_switchable=1)
+
+
+def written():
+    """The table's chunks that aren't docs/RULES.md's, from the field values that its comments name."""
+    frames = {"key48": key((64, 48)), "intra40": intra((96, 40), 1), "second": inter([4, 1, 0], [0, 1, 0], 0x10)}
+    return {**frames, "three": headers.superframe(list(frames.values()))}
+
+
 def before(state, names):
     """A series of chunks that leads to a state: of `eight`, a key frame, then an intra-only one for each later slot."""
     if state == "eight":
@@ -227,7 +238,10 @@ def main():
     given = options.parse_args()
     readers = [make(program) for make, program in ((Rust, given.judge), (Second, given.second)) if program]
     table, names = rows()
-    wrong = 0
+    differing = [name for name, data in written().items() if bytes(names[name]) != data]
+    wrong = len(differing)
+    for name in differing:
+        print(f"{name}: not what tests/handmade writes")
     for number, row in enumerate(table):
         for reader in readers:
             got = answered(reader, row, names)
