@@ -1,5 +1,5 @@
 #!/usr/bin/env python3
-"""Holds the rows of the proved table (crates/test_cases/specs/Table.antt) to readers that aren't ours.
+"""Holds the rows of the proved table (crates/test_cases/specs/Table.antt) to two other readers.
 
 Usage: check.py [--judge PROGRAM] [--second PROGRAM]
 
