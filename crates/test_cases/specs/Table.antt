@@ -44,8 +44,8 @@ pub record Frame : Type 0 where
   pub header-bytes : ℕ
   pub base : ℕ
 
-abbrev pub frameAt : ChunkRead → ℕ → Frame
-frameAt r i =
+abbrev pub theFrame : ChunkRead → ℕ → Frame
+theFrame r i =
     let h = getD (r .headers) i defaultHeader in
     record {
       at = getD (r .at) i 0;
@@ -62,7 +62,7 @@ frameAt r i =
 -- n frames from number j on
 unfoldable pub framesFrom : ChunkRead → ℕ → ℕ → List Frame
 framesFrom r j zero = []
-framesFrom r j (suc n) = frameAt r j ∷ framesFrom r (j + 1) n
+framesFrom r j (suc n) = theFrame r j ∷ framesFrom r (j + 1) n
 
 -- the chunk is accepted, with these frames, and leaves these sizes
 abbrev pub Accepted : ChunkRead → List Frame → List FrameSize → Type 0
