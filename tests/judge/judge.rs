@@ -58,7 +58,7 @@ mod stub {
     }
 }
 
-use bitstream_utils::IvfIterator;
+use bitstream_utils::{BitReader, IvfIterator};
 use codec::vp9::parser::{
     BitDepth, ColorRange, ColorSpace, Frame, FrameType, Header, InterpolationFilter, LoopFilterParams, Parser, Profile,
     QuantizationParams, ReferenceFrameType, Segmentation, SegmentationParams, MAX_SEGMENTS,
@@ -105,20 +105,24 @@ fn read_chunk(parser: &mut Parser, segments: &mut Segments, chunk: &[u8]) -> Res
     Ok(seen)
 }
 
-/// Reads one chunk with the memory put back on an error or a panic.
-fn judge(memory: &mut Memory, chunk: &[u8]) -> Verdict {
-    let mut parser = memory.parser.clone();
-    let mut segments = memory.segments.clone();
-    let result = catch_unwind(AssertUnwindSafe(|| read_chunk(&mut parser, &mut segments, chunk)));
-    match result {
-        Ok(Ok(seen)) => {
-            memory.parser = parser;
-            memory.segments = segments;
-            Verdict::Accepted(seen)
-        }
+/// Reads one chunk; the memory is what the Rust leaves, also on an error or a panic.
+fn left(memory: &mut Memory, chunk: &[u8]) -> Verdict {
+    let Memory { parser, segments } = memory;
+    match catch_unwind(AssertUnwindSafe(|| read_chunk(parser, segments, chunk))) {
+        Ok(Ok(seen)) => Verdict::Accepted(seen),
         Ok(Err(message)) => Verdict::Error(message),
         Err(_) => Verdict::Panic,
     }
+}
+
+/// Reads one chunk with the memory put back on an error or a panic.
+fn judge(memory: &mut Memory, chunk: &[u8]) -> Verdict {
+    let before = memory.clone();
+    let verdict = left(memory, chunk);
+    if !matches!(verdict, Verdict::Accepted(_)) {
+        *memory = before;
+    }
+    verdict
 }
 
 #[derive(Clone, Copy, PartialEq)]
@@ -134,16 +138,20 @@ struct Options {
     digest: bool,
     packets: bool,
     numbers: bool,
+    frames: bool,
+    bits: bool,
     records: bool,
     state: bool,
+    keep: bool,
     restore: bool,
     file: Option<String>,
 }
 
-const USAGE: &str = "usage: judge [--brief | --quiet-state] (--hex | --ivf) [FILE]
-       judge (--trace | --list | --packets | --numbers | --digest [--restore]) [FILE]
+const USAGE: &str = "usage: judge [--brief | --quiet-state] (--hex [--keep] | --ivf) [FILE]
+       judge (--trace | --list | --packets | --numbers | --frames | --bits | --digest [--restore]) [FILE]
 FILE is - or left out for standard input; --trace, --list and --packets take an IVF
-file, --numbers a number a line, --digest the records of tests/reader/DIGEST.md";
+file, --numbers a number a line, --frames OFFSET SIZE HEX, --bits HEX WIDTH.., --digest
+the records of tests/reader/DIGEST.md";
 
 fn read_options() -> Option<Options> {
     let mut options = Options {
@@ -153,8 +161,11 @@ fn read_options() -> Option<Options> {
         digest: false,
         packets: false,
         numbers: false,
+        frames: false,
+        bits: false,
         records: true,
         state: true,
+        keep: false,
         restore: false,
         file: None,
     };
@@ -170,6 +181,9 @@ fn read_options() -> Option<Options> {
             "--digest" => options.digest = true,
             "--packets" => options.packets = true,
             "--numbers" => options.numbers = true,
+            "--frames" => options.frames = true,
+            "--bits" => options.bits = true,
+            "--keep" => options.keep = true,
             "--restore" => options.restore = true,
             "--brief" => {
                 options.records = false;
@@ -766,7 +780,7 @@ fn run_hex(options: &Options, out: &mut impl Write) -> io::Result<()> {
             let message = format!("line {} is not hex", line_number);
             return Err(io::Error::new(io::ErrorKind::InvalidData, message));
         }
-        let verdict = judge(&mut memory, &chunk);
+        let verdict = if options.keep { left(&mut memory, &chunk) } else { judge(&mut memory, &chunk) };
         print_chunk(out, options, number, &verdict, &memory)?;
         number += 1;
     }
@@ -812,6 +826,55 @@ fn run_numbers(options: &Options, out: &mut impl Write) -> io::Result<()> {
     Ok(())
 }
 
+/// The words of a line, the one at `place` being hex.
+fn hex_word(line: &str, place: usize) -> io::Result<(Vec<&str>, Vec<u8>)> {
+    let words: Vec<&str> = line.split(' ').collect();
+    let mut bytes = Vec::new();
+    words.get(place).and_then(|word| hex_line(word.as_bytes(), &mut bytes)).ok_or_else(|| not_read(line))?;
+    Ok((words, bytes))
+}
+
+fn not_read(line: &str) -> io::Error {
+    io::Error::new(io::ErrorKind::InvalidData, line)
+}
+
+fn number(word: &str) -> io::Result<usize> {
+    word.parse().map_err(|_| not_read(word))
+}
+
+/// Prints what `parse_frame` of a fresh parser answers to OFFSET SIZE HEX, and how long the frame's part is.
+fn run_frames(options: &Options, out: &mut impl Write) -> io::Result<()> {
+    for line in open(options)?.lines() {
+        let line = line?;
+        let (words, bytes) = hex_word(&line, 2)?;
+        let (offset, size) = (number(words[0])?, number(words[1])?);
+        let parsed = catch_unwind(|| {
+            let frame = Parser::default().parse_frame(&bytes, offset, size)?;
+            let part = catch_unwind(AssertUnwindSafe(|| frame.as_ref().len()));
+            Ok::<_, String>(part.map_or(String::from("panic"), |length| length.to_string()))
+        });
+        match parsed {
+            Ok(Ok(part)) => writeln!(out, "accepted {part}")?,
+            Ok(Err(message)) => writeln!(out, "error {message}")?,
+            Err(_) => writeln!(out, "panic")?,
+        }
+    }
+    Ok(())
+}
+
+/// Prints what one `BitReader` over HEX answers to each WIDTH in turn, - for an error.
+fn run_bits(options: &Options, out: &mut impl Write) -> io::Result<()> {
+    for line in open(options)?.lines() {
+        let line = line?;
+        let (words, bytes) = hex_word(&line, 0)?;
+        let mut reader = BitReader::new(&bytes, false);
+        let answers: io::Result<Vec<String>> =
+            words[1..].iter().map(|word| Ok(tried(reader.read_bits::<u32>(number(word)?), |v| v))).collect();
+        writeln!(out, "{}", answers?.join(" "))?;
+    }
+    Ok(())
+}
+
 fn run(options: &Options) -> io::Result<()> {
     let mut out = BufWriter::with_capacity(1 << 16, io::stdout().lock());
     if options.packets {
@@ -819,6 +882,12 @@ fn run(options: &Options) -> io::Result<()> {
     }
     if options.numbers {
         return run_numbers(options, &mut out).and_then(|()| out.flush());
+    }
+    if options.frames {
+        return run_frames(options, &mut out).and_then(|()| out.flush());
+    }
+    if options.bits {
+        return run_bits(options, &mut out).and_then(|()| out.flush());
     }
     if options.list {
         return run_list(options, &mut out).and_then(|()| out.flush());

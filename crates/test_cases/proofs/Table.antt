@@ -1,6 +1,10 @@
 -- docs/RULES.md's cases, by computation.
 -- Assumes nothing.
-use mathlib.Core.Path.{refl}
+use Prim.Native.Nat.{ℕ, _<_, _^_}
+use mathlib.Core.Path.{_≡_, refl}
+use mathlib.Core.List.{List}
+use native.Mathlib.Omega.{arith}
+use lib.ListN.{length}
 use Rattle.base_bits.specs.Bit as Bit
 use Rattle.base_syntax.specs.Many as Many
 use Rattle.base_syntax.specs.Reader as Reader
@@ -19,7 +23,28 @@ use Rattle.chunk_judged.specs.Answer as Chunk
 use Rattle.segment_clamp.specs.Clamp as Clamp
 use Rattle.segment_features.specs.Features as Features
 use Rattle.segment_levels.specs.Levels as Levels
-use Rattle.test_cases.specs.Table.{framesFrom, table, AllHold}
+use Rattle.base_syntax.specs.Syntax.{flat}
+use Rattle.base_syntax.specs.Reader.{read}
+use Rattle.base_bits.proofs.Begins.{begins}
+use Rattle.base_syntax.proofs.Fields.{length-flat}
+use Rattle.base_size.specs.declared.FrameSize.{FrameSize}
+use Rattle.grammar_tables.specs.Header.{HeaderValues, headerFields}
+use Rattle.grammar_tables.specs.Reading.{readHeader}
+use Rattle.grammar_tables.proofs.Header.{header-reads, header-size}
+use Rattle.test_cases.specs.Table.{framesFrom, Bits, i, afterK, table, AllHold}
+
+-- a reading that came to its end has spelled values, of as many bits as it passed
+bits-read : (s : List ℕ) (slots : List FrameSize) (v : HeaderValues) (n : ℕ) → readHeader slots s 0 ≡ read v n → Bits s slots n
+bits-read s slots v n h =
+    let r = header-reads slots .sound s 0 v n h in
+    let fs = headerFields slots v in
+    let few : length (flat fs) < 2 ^ 64 = omega (arith, length-flat fs, header-size slots v) in
+    let many : length (flat fs) ≡ n = omega (arith, length-flat fs, r .2) in
+    (v, record { ranged = r .1 .ranged; begins = begins s (flat fs) few .0 (r .1 .stands) }, many)
+
+infixr 5 _and_
+abbrev _and_ : {A B : Type 0} → A → B → A × B
+a and b = (a, b)
 
 pub all-hold : AllHold table
 unfolding
@@ -29,4 +54,26 @@ unfolding
     Split.filled Split.firstPast Split.placed Split.splitOf Frames.stateBefore Frames.frameRead
     Frames.firstFault Chunk.judgedChunk Features.featuresOf Features.featuresIn Levels.levelsOf Levels.levelsAt
     Levels.deltaGrid Levels.pairOf Levels.segmentLevel Levels.levelMoved Levels.scaled Clamp.clampTo framesFrom
-all-hold = (refl, (refl, (refl, (refl, (refl, (refl, (refl, (refl, (refl, ((refl, refl), ((refl, refl), ((refl, refl), ((refl, refl), ((refl, refl, refl), ((refl, refl, refl), tt)))))))))))))))
+all-hold =
+    (refl, refl, refl)
+    and (refl, refl, refl, refl, refl, refl)
+    and (refl, refl, refl)
+    and bits-read i (afterK .«reference_frame_sz») _ _ refl
+    and (refl, refl, refl)
+    and (refl, refl, refl)
+    and (refl, refl, refl, refl, refl, refl)
+    and (refl, refl, refl, refl, refl, refl)
+    and (refl, refl, refl, refl, refl, refl)
+    and (refl, refl, refl, refl, refl, refl)
+    and (refl, refl)
+    and (refl, refl)
+    and (refl, refl)
+    and (refl, refl)
+    and (refl, refl, refl)
+    and (refl, refl, refl)
+    and (refl, refl, refl)
+    and (refl, refl, refl)
+    and (refl, refl, refl)
+    and (refl, refl, refl, refl, refl, refl)
+    and (refl, refl, refl, refl, refl, refl)
+    and tt
