@@ -24,7 +24,7 @@ ROOT = os.path.abspath(os.path.join(HERE, "..", ".."))
 ROWS = os.path.join(ROOT, "crates", "test_segment_rows", "specs", "Rows.antt")
 
 TOP = """\
--- Settings, and the eight records that the Rust makes of them from the records `before`. The numbers are the Rust's:
+-- Settings, and the eight records that the Rust makes of them from `oldRecords`. The numbers are the Rust's:
 -- tests/segments/rows.py wrote this file from its answers, and the gate compares it with them.
 -- Assumes nothing.
 use mathlib.Core.Bool.{true, false}
@@ -146,7 +146,7 @@ def row_lines(what, name, settings, records):
 
 
 def text(after):
-    lines = [TOP + "abbrev pub before : List Segmentation\nbefore ="]
+    lines = [TOP + "abbrev pub oldRecords : List Segmentation\noldRecords ="]
     lines.append(item_lines((segment(numbers_of(s)) for s in old_records()), " " * 4))
     for (what, name, *settings), records in zip(SETTINGS, after):
         lines += row_lines(what, name, settings, records)

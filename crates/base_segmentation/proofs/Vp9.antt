@@ -6,15 +6,7 @@ use borrow.Author.Tests.{lt-ltb}
 use Rattle.base_enums.specs.declared.SegLvl.the-variants.{AltQ, AltL, RefFrame, LvlSkip}
 use Rattle.base_segmentation.specs.declared.SegmentationParams.{SegmentationParams}
 use Rattle.base_segmentation.specs.SegmentationParams.{featureEnabled, featureActive, featureData}
-use Rattle.base_segmentation.specs.Vp9.{
-  «SEG_LVL_ALT_Q»,
-  «SEG_LVL_ALT_L»,
-  «SEG_LVL_REF_FRAME»,
-  «SEG_LVL_SKIP»,
-  «FeatureEnabled»,
-  «FeatureData»,
-  «seg_feature_active»,
-}
+use Rattle.base_segmentation.specs.Vp9.{«SEG_LVL_ALT_Q», «SEG_LVL_ALT_L», «SEG_LVL_REF_FRAME», «SEG_LVL_SKIP», «FeatureEnabled», «FeatureData», «seg_feature_active»}
 
 module _ (s : SegmentationParams) (i : ℕ) (h : i < 8) where
   pub alt-q : (featureActive s i AltQ ≡ «seg_feature_active» s i «SEG_LVL_ALT_Q») × (featureData s i AltQ ≡ «FeatureData» s i «SEG_LVL_ALT_Q»)

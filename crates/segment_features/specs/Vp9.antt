@@ -2,15 +2,7 @@
 -- FeatureEnabled, where VP9 asks seg_feature_active.
 use Prim.Native.Nat.{ℕ}
 use Rattle.base_segmentation.specs.declared.SegmentationParams.{SegmentationParams}
-use Rattle.base_segmentation.specs.Vp9.{
-  «SEG_LVL_ALT_Q»,
-  «SEG_LVL_ALT_L»,
-  «SEG_LVL_REF_FRAME»,
-  «SEG_LVL_SKIP»,
-  «FeatureEnabled»,
-  «FeatureData»,
-  «seg_feature_active»,
-}
+use Rattle.base_segmentation.specs.Vp9.{«SEG_LVL_ALT_Q», «SEG_LVL_ALT_L», «SEG_LVL_REF_FRAME», «SEG_LVL_SKIP», «FeatureEnabled», «FeatureData», «seg_feature_active»}
 use Rattle.segment_features.specs.declared.Features.{Features}
 
 unfoldable pub featuresSaid : SegmentationParams → ℕ → Features

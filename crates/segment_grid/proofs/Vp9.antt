@@ -6,18 +6,7 @@ use native.Mathlib.Omega.{arith}
 use lib.ListN.{length, getD}
 use lib.Seq.{ext-getD}
 use Rattle.segment_grid.specs.Grid.{gridOf, rowOf}
-use Rattle.segment_grid.specs.Vp9.{
-  Reference,
-  «INTRA_FRAME»,
-  «LAST_FRAME»,
-  «GOLDEN_FRAME»,
-  «ALTREF_FRAME»,
-  Mode,
-  mode0,
-  mode1,
-  inGrid,
-  inRow,
-}
+use Rattle.segment_grid.specs.Vp9.{Reference, «INTRA_FRAME», «LAST_FRAME», «GOLDEN_FRAME», «ALTREF_FRAME», Mode, mode0, mode1, inGrid, inRow}
 
 pub row-at : (grid : List (List ℕ)) (r : Reference) (m : Mode) → inRow (rowOf grid) r m ≡ inGrid grid r m
 unfolding rowOf

@@ -11,18 +11,8 @@ use Rattle.segment_clamp.specs.Clamp.{clampTo, changed}
 use Rattle.segment_clamp.specs.Vp9.{clip3}
 use Rattle.segment_clamp.proofs.Vp9.{clamp-is-clip3}
 use Rattle.segment_levels.specs.Levels.{levelMoved, scaled, segmentLevel, pairOf, deltaGrid, even, levelsAt, levelsOf}
-use Rattle.segment_levels.specs.Vp9.{lvlSeg, withDeltas, filterLevel}
-use Rattle.segment_grid.specs.Vp9.{
-  Reference,
-  «INTRA_FRAME»,
-  «LAST_FRAME»,
-  «GOLDEN_FRAME»,
-  «ALTREF_FRAME»,
-  Mode,
-  mode0,
-  mode1,
-  inGrid,
-}
+use Rattle.segment_levels.specs.Vp9.{lvlSeg, deltasAdded, filterLevel}
+use Rattle.segment_grid.specs.Vp9.{Reference, «INTRA_FRAME», «LAST_FRAME», «GOLDEN_FRAME», «ALTREF_FRAME», Mode, mode0, mode1, inGrid}
 
 pub segment-level-is : (frame : ℕ) (active absolute : Bool) (d : ℤ)
     → pos (segmentLevel frame active absolute d) ≡ lvlSeg frame active absolute d
@@ -46,8 +36,8 @@ moved-is l delta = clamp-is-clip3 63 (pos l +ℤ delta)
 
 deltas-at : (lf : LoopFilterParams) (l : ℕ) (old : List (List ℕ)) (r : Reference) (m : Mode)
     → pos (inGrid (deltaGrid (lf .level) l (lf .«ref_deltas») (lf .«mode_deltas») old) r m)
-    ≡ withDeltas lf (pos l) (lf .level / 2 ^ 5) r m (pos (inGrid old r m))
-unfolding deltaGrid pairOf scaled withDeltas
+    ≡ deltasAdded lf (pos l) (lf .level / 2 ^ 5) r m (pos (inGrid old r m))
+unfolding deltaGrid pairOf scaled deltasAdded
 deltas-at lf l old «INTRA_FRAME» mode0 = moved-is l _
 deltas-at lf l old «INTRA_FRAME» mode1 = refl
 deltas-at lf l old «LAST_FRAME» mode0 = moved-is l _
@@ -67,7 +57,7 @@ levels-at lf l old r m = go (eqb (lf .level) 0) (lf .«delta_enabled»)
 
     go : (none deltas : Bool)
         → pos (inGrid (pick none (even 0) (pick deltas grid (even l))) r m)
-        ≡ pick none (pos 0) (pick deltas (withDeltas lf (pos l) (lf .level / 2 ^ 5) r m (pos (inGrid old r m))) (pos l))
+        ≡ pick none (pos 0) (pick deltas (deltasAdded lf (pos l) (lf .level / 2 ^ 5) r m (pos (inGrid old r m))) (pos l))
     go true deltas = ap pos (even-at 0 r m)
     go false true = deltas-at lf l old r m
     go false false = ap pos (even-at l r m)

@@ -8,18 +8,7 @@ use lib.ListN.{getD}
 use Rattle.base_loop_filter.specs.declared.LoopFilterParams.{LoopFilterParams}
 use Rattle.base_shared.specs.Choice.{pick}
 use Rattle.segment_clamp.specs.Vp9.{clip3}
-use Rattle.segment_grid.specs.Vp9.{
-  Reference,
-  «INTRA_FRAME»,
-  «LAST_FRAME»,
-  «GOLDEN_FRAME»,
-  «ALTREF_FRAME»,
-  Mode,
-  mode0,
-  mode1,
-  refFrame,
-  modeNumber,
-}
+use Rattle.segment_grid.specs.Vp9.{Reference, «INTRA_FRAME», «LAST_FRAME», «GOLDEN_FRAME», «ALTREF_FRAME», Mode, mode0, mode1, refFrame, modeNumber}
 
 -- x << n
 abbrev pub shifted : ℤ → ℕ → ℤ
@@ -31,8 +20,8 @@ unfoldable pub lvlSeg : ℕ → Bool → Bool → ℤ → ℤ
 lvlSeg level active absolute d = clip3 (pos 0) (pos 63) (pick active (pick absolute d (pos level +ℤ d)) (pos level))
 
 -- the level with the deltas, from lvlSeg, the shift and the level that stood there
-unfoldable pub withDeltas : LoopFilterParams → ℤ → ℕ → Reference → Mode → ℤ → ℤ
-withDeltas lf l n r m old = at r m
+unfoldable pub deltasAdded : LoopFilterParams → ℤ → ℕ → Reference → Mode → ℤ → ℤ
+deltasAdded lf l n r m old = at r m
   where
     ref : ℤ
     ref = shifted (getD (lf .«ref_deltas») (refFrame r) (pos 0)) n
@@ -51,4 +40,4 @@ withDeltas lf l n r m old = at r m
 unfoldable pub filterLevel : LoopFilterParams → ℤ → Reference → Mode → ℤ → ℤ
 filterLevel lf l r m old =
     pick (eqb (lf .level) 0) (pos 0)
-    (pick (lf .«delta_enabled») (withDeltas lf l (lf .level / 2 ^ 5) r m old) l)
+    (pick (lf .«delta_enabled») (deltasAdded lf l (lf .level / 2 ^ 5) r m old) l)

@@ -17,8 +17,8 @@ unfoldable pub «ac_q» : BitDepth → ℤ → ℤ
 «ac_q» depth b = entry (acTable depth) (natAbs (clip3 (pos 0) (pos 255) b))
 
 -- the data in the place of base_q_idx or added to it, where the feature is active
-unfoldable pub «get_qidx» : QuantizationParams → SegmentationParams → ℕ → ℤ
-«get_qidx» q s i =
+unfoldable pub «get_qindex» : QuantizationParams → SegmentationParams → ℕ → ℤ
+«get_qindex» q s i =
     pick («seg_feature_active» s i «SEG_LVL_ALT_Q»)
     (clip3 (pos 0) (pos 255) (pick (s .«abs_or_delta_update») d (pos (q .«base_q_idx») +ℤ d)))
     (pos (q .«base_q_idx»))
@@ -30,8 +30,8 @@ unfoldable pub «get_qidx» : QuantizationParams → SegmentationParams → ℕ 
 unfoldable pub quantOf : BitDepth → QuantizationParams → SegmentationParams → ℕ → Scales
 quantOf depth q s i =
     record {
-      «luma_ac» = «ac_q» depth («get_qidx» q s i);
-      «luma_dc» = «dc_q» depth («get_qidx» q s i +ℤ q .«delta_q_y_dc»);
-      «chroma_ac» = «ac_q» depth («get_qidx» q s i +ℤ q .«delta_q_uv_ac»);
-      «chroma_dc» = «dc_q» depth («get_qidx» q s i +ℤ q .«delta_q_uv_dc»);
+      «luma_ac» = «ac_q» depth («get_qindex» q s i);
+      «luma_dc» = «dc_q» depth («get_qindex» q s i +ℤ q .«delta_q_y_dc»);
+      «chroma_ac» = «ac_q» depth («get_qindex» q s i +ℤ q .«delta_q_uv_ac»);
+      «chroma_dc» = «dc_q» depth («get_qindex» q s i +ℤ q .«delta_q_uv_dc»);
     }

@@ -5,14 +5,7 @@ use mathlib.Core.Path.{_≡_}
 use lib.IntN.{ℤ, pos}
 use lib.ListN.{length}
 use Rattle.base_types.specs.declared.header.Header.{Header}
-use Rattle.base_segmentation.specs.Vp9.{
-  «SEG_LVL_ALT_L»,
-  «SEG_LVL_REF_FRAME»,
-  «SEG_LVL_SKIP»,
-  «FeatureEnabled»,
-  «FeatureData»,
-  «seg_feature_active»,
-}
+use Rattle.base_segmentation.specs.Vp9.{«SEG_LVL_ALT_L», «SEG_LVL_REF_FRAME», «SEG_LVL_SKIP», «FeatureEnabled», «FeatureData», «seg_feature_active»}
 use Rattle.segment_grid.specs.Vp9.{Reference, Mode, inRow}
 use Rattle.segment_levels.specs.Vp9.{lvlSeg, filterLevel}
 use Rattle.segment_quant.specs.Vp9.{quantOf}

@@ -1,4 +1,4 @@
--- Settings, and the eight records that the Rust makes of them from the records `before`. The numbers are the Rust's:
+-- Settings, and the eight records that the Rust makes of them from `oldRecords`. The numbers are the Rust's:
 -- tests/segments/rows.py wrote this file from its answers, and the gate compares it with them.
 -- Assumes nothing.
 use mathlib.Core.Bool.{true, false}
@@ -8,8 +8,8 @@ use Rattle.base_enums.specs.declared.BitDepth.the-variants.{Depth8, Depth10, De
 use Rattle.segment_records.specs.declared.Segmentation.{Segmentation}
 use Rattle.test_segment_rows.specs.Settings.{minus, off, on, features, filter, quantizers, segments, headerWith, segment, SegmentRow}
 
-abbrev pub before : List Segmentation
-before =
+abbrev pub oldRecords : List Segmentation
+oldRecords =
     segment (100 ∷ 101 ∷ 102 ∷ 103 ∷ 104 ∷ 105 ∷ 106 ∷ 107 ∷ []) (minus 1) (minus 2) (minus 3) (minus 4) false (minus 5) false
     ∷ segment (108 ∷ 109 ∷ 110 ∷ 111 ∷ 112 ∷ 113 ∷ 114 ∷ 115 ∷ []) (minus 1) (minus 2) (minus 3) (minus 4) false (minus 5) false
     ∷ segment (116 ∷ 117 ∷ 118 ∷ 119 ∷ 120 ∷ 121 ∷ 122 ∷ 123 ∷ []) (minus 1) (minus 2) (minus 3) (minus 4) false (minus 5) false

@@ -25,9 +25,9 @@ abbrev pub isOn : Feature → Bool
 isOn off = false
 isOn (on d) = true
 
-abbrev pub dataOf : Feature → ℤ
-dataOf off = pos 0
-dataOf (on d) = d
+abbrev pub valueOf : Feature → ℤ
+valueOf off = pos 0
+valueOf (on d) = d
 
 -- the features of a segment
 pub record FourFeatures : Type 0 where
@@ -74,7 +74,7 @@ segments enabled absolute fs =
       «update_data» = false;
       «abs_or_delta_update» = absolute;
       «feature_enabled» = rowBy isOn fs;
-      «feature_data» = rowBy dataOf fs;
+      «feature_data» = rowBy valueOf fs;
     }
 
 -- a default header but for these settings

@@ -5,11 +5,11 @@ use mathlib.Core.List.{List, [], _∷_}
 use Rattle.base_shared.specs.Lists.{each}
 use Rattle.segment_records.specs.Segmentation.{segmentOf}
 use Rattle.test_segment_rows.specs.Settings.{SegmentRow}
-use Rattle.test_segment_rows.specs.Rows.{before, absoluteRow, relativeRow, offRow, zeroRow}
+use Rattle.test_segment_rows.specs.Rows.{oldRecords, absoluteRow, relativeRow, offRow, zeroRow}
 
 abbrev pub segmentRows : List SegmentRow
 segmentRows = absoluteRow ∷ relativeRow ∷ offRow ∷ zeroRow ∷ []
 
 abbrev pub RowsHold : List SegmentRow → Type 0
 RowsHold [] = Unit
-RowsHold (row ∷ others) = (each (segmentOf (row .header)) 0 before ≡ row .after) × RowsHold others
+RowsHold (row ∷ others) = (each (segmentOf (row .header)) 0 oldRecords ≡ row .after) × RowsHold others
