@@ -36,7 +36,7 @@ moved-is l delta = clamp-is-clip3 63 (pos l +ℤ delta)
 
 deltas-at : (lf : LoopFilterParams) (l : ℕ) (old : List (List ℕ)) (r : Reference) (m : Mode)
     → pos (inGrid (deltaGrid (lf .level) l (lf .«ref_deltas») (lf .«mode_deltas») old) r m)
-    ≡ deltasAdded lf (pos l) (lf .level / 2 ^ 5) r m (pos (inGrid old r m))
+    ≡ deltasAdded lf (lf .level / 2 ^ 5) (pos l) r m (pos (inGrid old r m))
 unfolding deltaGrid pairOf scaled deltasAdded
 deltas-at lf l old «INTRA_FRAME» mode0 = moved-is l _
 deltas-at lf l old «INTRA_FRAME» mode1 = refl
@@ -57,7 +57,7 @@ levels-at lf l old r m = go (eqb (lf .level) 0) (lf .«delta_enabled»)
 
     go : (none deltas : Bool)
         → pos (inGrid (pick none (even 0) (pick deltas grid (even l))) r m)
-        ≡ pick none (pos 0) (pick deltas (deltasAdded lf (pos l) (lf .level / 2 ^ 5) r m (pos (inGrid old r m))) (pos l))
+        ≡ pick none (pos 0) (pick deltas (deltasAdded lf (lf .level / 2 ^ 5) (pos l) r m (pos (inGrid old r m))) (pos l))
     go true deltas = ap pos (even-at 0 r m)
     go false true = deltas-at lf l old r m
     go false false = ap pos (even-at l r m)

@@ -10,34 +10,32 @@ use Rattle.base_shared.specs.Choice.{pick}
 use Rattle.segment_clamp.specs.Vp9.{clip3}
 use Rattle.segment_grid.specs.Vp9.{Reference, «INTRA_FRAME», «LAST_FRAME», «GOLDEN_FRAME», «ALTREF_FRAME», Mode, mode0, mode1, refFrame, modeNumber}
 
--- x << n
-abbrev pub shifted : ℤ → ℕ → ℤ
-shifted x n = x *ℤ pos (2 ^ n)
+-- loop_filter_ref_deltas[r] << n and loop_filter_mode_deltas[m] << n
+abbrev pub refShifted : LoopFilterParams → ℕ → Reference → ℤ
+refShifted lf n r = getD (lf .«ref_deltas») (refFrame r) (pos 0) *ℤ pos (2 ^ n)
+
+abbrev pub modeShifted : LoopFilterParams → ℕ → Mode → ℤ
+modeShifted lf n m = getD (lf .«mode_deltas») (modeNumber m) (pos 0) *ℤ pos (2 ^ n)
 
 -- lvlSeg by seg_feature_active(SEG_LVL_ALT_L), segmentation_abs_or_delta_update and the feature's data; clamped also
 -- where the feature isn't active, as a header of any level gets an answer
 unfoldable pub lvlSeg : ℕ → Bool → Bool → ℤ → ℤ
 lvlSeg level active absolute d = clip3 (pos 0) (pos 63) (pick active (pick absolute d (pos level +ℤ d)) (pos level))
 
--- the level with the deltas, from lvlSeg, the shift and the level that stood there
-unfoldable pub deltasAdded : LoopFilterParams → ℤ → ℕ → Reference → Mode → ℤ → ℤ
-deltasAdded lf l n r m old = at r m
-  where
-    ref : ℤ
-    ref = shifted (getD (lf .«ref_deltas») (refFrame r) (pos 0)) n
+-- lvlSeg with the deltas of a reference other than intra and of a mode, shifted by n
+abbrev pub interLevel : LoopFilterParams → ℕ → ℤ → Reference → Mode → ℤ
+interLevel lf n l r m = clip3 (pos 0) (pos 63) (l +ℤ (refShifted lf n r +ℤ modeShifted lf n m))
 
-    both : ℤ
-    both = ref +ℤ shifted (getD (lf .«mode_deltas») (modeNumber m) (pos 0)) n
+-- lvlSeg with the deltas, where old stood
+unfoldable pub deltasAdded : LoopFilterParams → ℕ → ℤ → Reference → Mode → ℤ → ℤ
+deltasAdded lf n l «INTRA_FRAME» mode0 old = clip3 (pos 0) (pos 63) (l +ℤ refShifted lf n «INTRA_FRAME»)
+deltasAdded lf n l «INTRA_FRAME» mode1 old = old
+deltasAdded lf n l «LAST_FRAME» m old = interLevel lf n l «LAST_FRAME» m
+deltasAdded lf n l «GOLDEN_FRAME» m old = interLevel lf n l «GOLDEN_FRAME» m
+deltasAdded lf n l «ALTREF_FRAME» m old = interLevel lf n l «ALTREF_FRAME» m
 
-    at : Reference → Mode → ℤ
-    at «INTRA_FRAME» mode0 = clip3 (pos 0) (pos 63) (l +ℤ ref)
-    at «INTRA_FRAME» mode1 = old
-    at «LAST_FRAME» mode = clip3 (pos 0) (pos 63) (l +ℤ both)
-    at «GOLDEN_FRAME» mode = clip3 (pos 0) (pos 63) (l +ℤ both)
-    at «ALTREF_FRAME» mode = clip3 (pos 0) (pos 63) (l +ℤ both)
-
--- from lvlSeg, and 0 for a frame that isn't filtered
+-- the level by lvlSeg; 0 in a frame that isn't filtered
 unfoldable pub filterLevel : LoopFilterParams → ℤ → Reference → Mode → ℤ → ℤ
 filterLevel lf l r m old =
     pick (eqb (lf .level) 0) (pos 0)
-    (pick (lf .«delta_enabled») (deltasAdded lf l (lf .level / 2 ^ 5) r m old) l)
+    (pick (lf .«delta_enabled») (deltasAdded lf (lf .level / 2 ^ 5) l r m old) l)
