@@ -1,5 +1,5 @@
 -- Each level of the grid is VP9's for its reference and mode.
-use mathlib.Core.Path.{_≡_, refl, ap, _∙_}
+use mathlib.Core.Path.{_≡_, refl, ap}
 use mathlib.Core.Bool.{Bool, true, false}
 use mathlib.Core.List.{List}
 use Prim.Native.Nat.{ℕ, _/_, _^_}
@@ -7,7 +7,6 @@ use lib.Dec.{eqb}
 use lib.IntN.{ℤ, pos, _+ℤ_}
 use Rattle.base_loop_filter.specs.declared.LoopFilterParams.{LoopFilterParams}
 use Rattle.base_shared.specs.Choice.{pick}
-use Rattle.segment_clamp.specs.Clamp.{clampTo, changed}
 use Rattle.segment_clamp.specs.Vp9.{clip3}
 use Rattle.segment_clamp.proofs.Vp9.{clamp-is-clip3}
 use Rattle.segment_levels.specs.Levels.{levelMoved, scaled, segmentLevel, pairOf, deltaGrid, even, levelsAt, levelsOf}

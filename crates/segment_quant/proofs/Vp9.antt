@@ -1,5 +1,5 @@
 -- The definitions in Quant say what VP9 says.
-use mathlib.Core.Path.{_≡_, refl, sym, ap, _∙_}
+use mathlib.Core.Path.{_≡_, refl, _∙_}
 use mathlib.Core.Bool.{Bool, true, false}
 use mathlib.Core.List.{List}
 use Prim.Native.Nat.{ℕ, _<_}
@@ -10,7 +10,6 @@ use Rattle.base_segmentation.specs.declared.SegmentationParams.{SegmentationPar
 use Rattle.base_segmentation.proofs.Vp9.{alt-q}
 use Rattle.base_segmentation.specs.Vp9.{«SEG_LVL_ALT_Q», «FeatureData», «seg_feature_active»}
 use Rattle.base_shared.specs.Choice.{pick}
-use Rattle.segment_clamp.specs.Clamp.{clampTo, changed}
 use Rattle.segment_clamp.specs.Vp9.{clip3}
 use Rattle.segment_clamp.proofs.Vp9.{clamp-is-clip3}
 use Rattle.segment_tables.specs.Tables.{dcTable, acTable, entry}
@@ -39,7 +38,9 @@ same e f g h = rw (e, f, g, h)
 module _ (depth : BitDepth) (q : QuantizationParams) (s : SegmentationParams) (i : ℕ) (h : i < 8) where
   pub qindex-is : pos (qindex q s i) ≡ «get_qindex» q s i
   unfolding qindex «get_qindex»
-  qindex-is = let (e, f) = alt-q s i h in rw (e, f) (qindex-of (q .«base_q_idx») («seg_feature_active» s i «SEG_LVL_ALT_Q») (s .«abs_or_delta_update») («FeatureData» s i «SEG_LVL_ALT_Q»))
+  qindex-is =
+      let (e, f) = alt-q s i h in
+      rw (e, f) (qindex-of _ («seg_feature_active» s i «SEG_LVL_ALT_Q») (s .«abs_or_delta_update») («FeatureData» s i «SEG_LVL_ALT_Q»))
 
   pub at-qindex : scalesAt (dcTable depth) (acTable depth) q (qindex q s i) ≡ quantOf depth q s i
   unfolding scalesAt quantOf «dc_q» «ac_q»

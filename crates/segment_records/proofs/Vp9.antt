@@ -9,13 +9,12 @@ use Rattle.base_types.specs.declared.header.Header.{Header}
 use Rattle.base_shared.specs.Lists.{each}
 use Rattle.base_shared.proofs.Each.{each-at}
 use Rattle.segment_grid.specs.Grid.{gridOf, rowOf}
-use Rattle.segment_grid.specs.Vp9.{Reference, Mode, inGrid, inRow}
+use Rattle.segment_grid.specs.Vp9.{Reference, Mode, inRow}
 use Rattle.segment_grid.proofs.Vp9.{row-at, grid-at, row-same}
 use Rattle.segment_levels.specs.Vp9.{filterLevel}
 use Rattle.segment_levels.proofs.Vp9.{level-is}
 use Rattle.segment_quant.specs.Vp9.{quantOf}
 use Rattle.segment_quant.proofs.Vp9.{scales-are-quant}
-use Rattle.segment_features.specs.Features.{featuresOf}
 use Rattle.segment_features.specs.Vp9.{featuresSaid}
 use Rattle.segment_features.proofs.Vp9.{features-are}
 use Rattle.segment_records.specs.declared.Segmentation.{Segmentation}

@@ -1,5 +1,6 @@
 -- A segment's record once more, by VP9's sections 8.6.1 and 8.8.1: each level for its reference and mode, each scale for
--- its plane. What is kept of the source stands with the levels and the features.
+-- its plane. Of the source is kept, besides what the levels say, that reference and skip report FeatureEnabled, where
+-- VP9 asks seg_feature_active.
 use Prim.Native.Nat.{ℕ}
 use mathlib.Core.Path.{_≡_}
 use lib.IntN.{ℤ, pos}
@@ -9,7 +10,6 @@ use Rattle.base_segmentation.specs.Vp9.{«SEG_LVL_ALT_L», «SEG_LVL_REF_FRAME�
 use Rattle.segment_grid.specs.Vp9.{Reference, Mode, inRow}
 use Rattle.segment_levels.specs.Vp9.{lvlSeg, filterLevel}
 use Rattle.segment_quant.specs.Vp9.{quantOf}
-use Rattle.segment_quant.specs.declared.Scales.{Scales}
 use Rattle.segment_records.specs.declared.Segmentation.{Segmentation}
 
 -- lvlSeg of segment i
