@@ -35,6 +35,8 @@ TIED = {
         "header_parser/proofs/Theorems.demanded header_parser/proofs/Theorems.no-other",
     "chunk_parser/specs/Answer.chunkOf":
         "chunk_parser/proofs/Table.* chunk_parser/proofs/Accepted.*",
+    "segment_records/specs/Segmentation.segmentOf":
+        "segment_records/proofs/Vp9.each-segment-is segment_records/proofs/Vp9.one-after",
 }
 
 # What is said of a header, in the order of reading, with what a file is for down to its first such comment.

@@ -18,7 +18,7 @@ impl LoopFilterParams {
 
     pub const MAX_MODE_LF_DELTAS: usize = 2;
 
-    pub const MAX_LOOP_FILTER: u32 = 63;
+    pub const MAX_LOOP_FILTER: u8 = 63;
 
     pub const DEFAULT: Self = Self {
         level: 0,

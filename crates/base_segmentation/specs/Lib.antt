@@ -1,1 +1,2 @@
 pub mod SegmentationParams
+pub mod Vp9

@@ -1,2 +1,3 @@
 pub mod Ranges
 pub mod Casts
+pub mod Vp9

@@ -1,1 +1,2 @@
 pub mod Clamp
+pub mod Vp9

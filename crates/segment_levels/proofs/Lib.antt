@@ -1,2 +1,3 @@
 pub mod Bounds
 pub mod Frame
+pub mod Vp9

@@ -1,2 +1,3 @@
 pub mod Levels
 pub mod Once
+pub mod Vp9

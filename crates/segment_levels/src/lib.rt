@@ -6,7 +6,7 @@ ghost use Rattle.segment_levels.specs.Once.{frameLevels, kept, levelsFro
 use base_loop_filter::LoopFilterParams;
 use segment_grid::Grid;
 
-const MAX_LEVEL: u8 = 63;
+const MAX_LEVEL: u8 = LoopFilterParams::MAX_LOOP_FILTER;
 
 // A delta times 2^n, where n goes by the frame's level, not the segment's.
 fn scale(frame: u8, delta: i8) -> i16

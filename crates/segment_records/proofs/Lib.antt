@@ -1,2 +1,3 @@
 pub mod Halves
 pub mod Frame
+pub mod Vp9

@@ -1,3 +1,4 @@
 pub mod Entries
 pub mod Segmentation
 pub mod Once
+pub mod Vp9

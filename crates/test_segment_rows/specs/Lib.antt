@@ -1,0 +1,3 @@
+pub mod Settings
+pub mod Rows
+pub mod Table
