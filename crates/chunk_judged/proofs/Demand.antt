@@ -58,19 +58,22 @@ module _ (judge : Judge) (Demand : FrameDemand) (t : Meets judge Demand) (s : Li
   abbrev reads : ℕ → HeaderRead
   reads = frameRead judge s (splitOf s) st
 
+  abbrev verdicts : ℕ → Verdict
+  verdicts = verdictAt judge s st
+
   state-next : (i : ℕ) → reads i .state ≡ before (i + 1)
   unfolding stateBefore frameRead
   state-next i = rw add-one
 
-  -- what a search for the first refusal finds is answered
-  framed : (n : ℕ) → splitOf s .answer ≡ split.Frames n → (f : FaultFound) → Found (verdictAt judge s st) 0 n f → judgedChunk judge s st ≡ answered (acceptedChunk judge s (splitOf s) st n) st f
-  framed n a f g =
-      let one = one-found (verdictAt judge s st) 0 n f (firstFault (verdictAt judge s st) 0 n) g (found (verdictAt judge s st) 0 n) in
-      sym (ap (answered (acceptedChunk judge s (splitOf s) st n) st) one ∙ by-split judge s st (split.Frames n) refl a)
-
   module _ (f : AllFit s) where
     was-split : splitOf s .answer ≡ split.Frames count
     was-split = exactly s (split.Frames count) .1 (f, refl)
+
+    -- what a search for the first refusal finds is answered
+    framed : (x : FaultFound) → Found verdicts 0 count x → judgedChunk judge s st ≡ answered (acceptedChunk judge s (splitOf s) st count) st x
+    framed x g =
+        let one = one-found verdicts 0 count x (firstFault verdicts 0 count) g (found verdicts 0 count) in
+        sym (ap (answered (acceptedChunk judge s (splitOf s) st count) st) one ∙ by-split judge s st (split.Frames count) refl was-split)
 
     -- a frame by the split and by the layout
     bytes-are : (i : ℕ) → i < count → frameBytes s (splitOf s) i ≡ frameAt s i
@@ -93,11 +96,11 @@ module _ (judge : Judge) (Demand : FrameDemand) (t : Meets judge Demand) (s : Li
       in-turn : (i : ℕ) → i < n → reads i ≡ accepted (headers i) (states (i + 1))
       in-turn i h = judged-is i h (states-are i (omega arith))
 
-      all-good : Good (verdictAt judge s st) 0 n
+      all-good : Good verdicts 0 n
       all-good i z h = ap (λ (r : HeaderRead). r .verdict) (in-turn i h)
 
     -- and those that the judge accepts are accepted in turn
-    turn-is : (n : ℕ) → n ≤ count → Good (verdictAt judge s st) 0 n → InTurn Demand s st n (λ i. reads i .header) before
+    turn-is : (n : ℕ) → n ≤ count → Good verdicts 0 n → InTurn Demand s st n (λ i. reads i .header) before
     unfolding stateBefore
     turn-is n l g = record {
       from = refl;
@@ -106,7 +109,7 @@ module _ (judge : Judge) (Demand : FrameDemand) (t : Meets judge Demand) (s : Li
           rw e at (t .demanded (frameAt s i) (before i));
     }
 
-    first-refused : (i : ℕ) (e : Refusal) → i < count → Good (verdictAt judge s st) 0 i → reads i .verdict ≡ Refused e → HeaderRefused Demand s st i e
+    first-refused : (i : ℕ) (e : Refusal) → i < count → Good verdicts 0 i → reads i .verdict ≡ Refused e → HeaderRefused Demand s st i e
     first-refused i e l g v = record {
       fit = f;
       among = l;
@@ -122,14 +125,14 @@ module _ (judge : Judge) (Demand : FrameDemand) (t : Meets judge Demand) (s : Li
       let good = all-good (h .fit) i (omega arith) (h .headers) (h .states) (h .earlier) in
       let state = states-are (h .fit) i (omega arith) (h .headers) (h .states) (h .earlier) i (omega arith) in
       let read : reads i ≡ refusedWith (h .states i) e = read-is (h .fit) i l ∙ rw state (sym (t .no-other (frameAt s i) (h .states i) (refusedWith (h .states i) e) (h .refused))) in
-      framed count (was-split (h .fit)) (fault i e) (omega arith, omega arith, good, ap (λ (r : HeaderRead). r .verdict) read)
+      framed (h .fit) (fault i e) (omega arith, omega arith, good, ap (λ (r : HeaderRead). r .verdict) read)
 
   frames-row : (headers : ℕ → Header) (states : ℕ → ReaderState) → AllFit s → InTurn Demand s st count headers states → judgedChunk judge s st ≡ framesRead (layoutOf s) headers (states count)
   frames-row headers states f c =
       let turn = in-turn f count (omega arith) headers states c in
       let heads = filled-same defaultHeader (λ i. reads i .header) headers count (λ i h. ap (λ (r : HeaderRead). r .header) (turn i h)) in
       let last = states-are f count (omega arith) headers states c count (omega arith) in
-      framed count (was-split f) none (λ i z h. ap (λ (r : HeaderRead). r .verdict) (turn i (omega arith))) ∙ rw (heads, last, index.demanded s .frames f)
+      framed f none (λ i z h. ap (λ (r : HeaderRead). r .verdict) (turn i (omega arith))) ∙ rw (heads, last, index.demanded s .frames f)
 
   refused-is : (a : Answer) → judgedChunk judge s st ≡ refusedChunk a st → ChunkRefused (chunkNumber a) (chunkFrame a) st (judgedChunk judge s st)
   refused-is a e = rw e (record { number = refl; frame = refl; nothing = refl })
@@ -156,7 +159,7 @@ module _ (judge : Judge) (Demand : FrameDemand) (t : Meets judge Demand) (s : Li
       faulty i SyncCode g = same-refusal (λ z. omega arith) (h .row-5 i g) (demanded .row-5 i g)
       faulty i PastEnd g = same-refusal (λ z. omega arith) (h .row-6 i g) (demanded .row-6 i g)
 
-      searched : AllFit s → (f : FaultFound) → Found (verdictAt judge s st) 0 count f → r ≡ judgedChunk judge s st
+      searched : AllFit s → (f : FaultFound) → Found verdicts 0 count f → r ≡ judgedChunk judge s st
       searched a none g = let c = turn-is a count (omega arith) (λ i z l. g i z (omega arith)) in h .frames _ _ a c ∙ sym (demanded .frames _ _ a c)
       searched a (fault i e) g = faulty i e (first-refused a i e (omega (arith, g .1)) (g .2) (g .3))
 
@@ -164,4 +167,4 @@ module _ (judge : Judge) (Demand : FrameDemand) (t : Meets judge Demand) (s : Li
       go split.Empty e = let g = exactly s split.Empty .0 e in same-refusal (λ z. omega arith) (h .row-1 g) (demanded .row-1 g)
       go split.Short e = let g = exactly s split.Short .0 e in same-refusal (λ z. omega arith) (h .row-2 g) (demanded .row-2 g)
       go (split.Past i) e = let g = exactly s (split.Past i) .0 e in same-refusal (λ z. omega arith) (h .row-3 i (g .0) (g .1) (g .2)) (demanded .row-3 i (g .0) (g .1) (g .2))
-      go (split.Frames n) e = searched (exactly s (split.Frames n) .0 e .0) (firstFault (verdictAt judge s st) 0 count) (found (verdictAt judge s st) 0 count)
+      go (split.Frames n) e = searched (exactly s (split.Frames n) .0 e .0) (firstFault verdicts 0 count) (found verdicts 0 count)
