@@ -23,10 +23,11 @@ pub record FrameRefused (n : ℕ) (st : ReaderState) (r : FrameRead) : Type 0 wh
   pub nothing : r ≡ refusedFrame (r .place) st
 
 module _ (chunk : List ℕ) (offset size : ℕ) where
+  -- the frame lies outside its chunk
   abbrev pub LiesOutside : Type 0
   LiesOutside = (length chunk < offset) ⊎ (length chunk - offset < size)
 
-  -- what is demanded of the header of the frame's bytes, where it doesn't
+  -- it doesn't, and h is what is demanded of the header of its bytes
   abbrev pub InsideDemanded : ReaderState → HeaderRead → Type 0
   InsideDemanded st h = (LiesOutside → ⊥) × Demanded (take size (drop offset chunk)) st h
 
