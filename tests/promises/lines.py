@@ -33,8 +33,10 @@ TOLD = "-- what it answers is said by theorems: see `promised` below"
 TIED = {
     "header_parser/specs/Answer.parsed":
         "header_parser/proofs/Theorems.demanded header_parser/proofs/Theorems.no-other",
+    "chunk_frame/specs/Place.framePlaced":
+        "chunk_frame/proofs/Theorems.demanded chunk_frame/proofs/Theorems.no-other",
     "chunk_parser/specs/Answer.chunkOf":
-        "chunk_parser/proofs/Table.* chunk_parser/proofs/Accepted.*",
+        "chunk_parser/proofs/Theorems.demanded chunk_parser/proofs/Theorems.no-other",
     "segment_records/specs/Segmentation.segmentOf":
         "segment_records/proofs/Vp9.each-segment-is segment_records/proofs/Vp9.one-after",
 }
@@ -52,7 +54,7 @@ HEADER = [
     ("record", "base_loop_filter/specs/* base_quantization/specs/* base_segmentation/specs/*"),
     ("record", "base_types/specs/Header base_slots/specs/*"),
     ("refusals", "header_verdict/src/*"),
-    ("record", "header_answer/src/* header_parser/src/* header_parser/specs/Answer"),
+    ("record", "header_answer/* header_parser/src/* header_parser/specs/Answer"),
     ("refusals", "base_syntax/specs/Fault header_verdict/specs/* header_parser/specs/Demand"),
 ]
 
@@ -74,12 +76,13 @@ PARTS = {
         [("", "base_enums/* base_segmentation/*")]),
     "frame": Part(
         {"": "a single frame of a chunk"},
-        "chunk_frame/src/lib.parse_frame header_verdict/src/lib.Place::number",
-        [("", "base_shared/* header_verdict/* chunk_frame/*")]),
+        "chunk_frame/src/lib.parse_frame header_verdict/src/lib.Place::*",
+        [("", "header_verdict/* chunk_frame/*")]),
     "chunk": Part(
         {"": "a chunk"},
         "chunk_parser/src/lib.parse_chunk chunk_answer/src/lib.Answer::*",
-        [("", "base_shared/* base_types/src/lib base_little/specs/* header_parser/specs/Demand chunk_*/*")]),
+        [("", "base_shared/* base_types/src/lib base_little/specs/* chunk_index/specs/* chunk_answer/*"),
+         ("", "chunk_judged/specs/Demand chunk_parser/*")]),
     "choice": Part(
         {"": "the picture choice"},
         "chunk_choice/src/lib.choose_picture",

@@ -7,18 +7,19 @@ use native.Mathlib.Omega.{arith}
 use lib.ListN.{length, take, drop}
 use borrow.Author.Tests.{le-leb, lt-leb}
 use Rattle.base_types.specs.declared.state.ReaderState.{ReaderState}
+use Rattle.header_verdict.specs.declared.Place.the-variants.{Outside}
 use Rattle.header_answer.specs.declared.HeaderRead.{HeaderRead}
 use Rattle.header_parser.specs.Answer.{parsed}
 use Rattle.chunk_frame.specs.declared.FrameRead.{FrameRead}
-use Rattle.chunk_frame.specs.Place.{outsideFrame, insideFrame, framePlaced}
+use Rattle.chunk_frame.specs.Place.{refusedFrame, insideFrame, framePlaced}
 
 -- a frame that lies outside its chunk, by its offset or by its size, and one that lies inside
 module _ (chunk : List ℕ) (offset size : ℕ) (st : ReaderState) where
-  pub placed-far : (y : FrameRead) → length chunk < offset → y ≡ outsideFrame st → y ≡ framePlaced chunk offset size st
+  pub placed-far : (y : FrameRead) → length chunk < offset → y ≡ refusedFrame Outside st → y ≡ framePlaced chunk offset size st
   unfolding framePlaced
   placed-far y h e = simp (lt-leb offset (length chunk) h) e
 
-  pub placed-long : (y : FrameRead) → offset ≤ length chunk → length chunk - offset < size → y ≡ outsideFrame st → y ≡ framePlaced chunk offset size st
+  pub placed-long : (y : FrameRead) → offset ≤ length chunk → length chunk - offset < size → y ≡ refusedFrame Outside st → y ≡ framePlaced chunk offset size st
   unfolding framePlaced
   placed-long y l h e = simp (le-leb offset (length chunk) l, lt-leb size (length chunk - offset) h) e
 

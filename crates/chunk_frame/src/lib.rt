@@ -1,6 +1,7 @@
 // A single frame of a chunk, at an offset and of a size.
 ghost use mathlib.Core.Path.{_≡_};
-ghost use Rattle.chunk_frame.specs.Place.{outsideFrame, framePlaced};
+ghost use Rattle.header_verdict.specs.declared.Place.the-variants.{Outside};
+ghost use Rattle.chunk_frame.specs.Place.{refusedFrame, framePlaced};
 use base_types::Header;
 use base_types::ReaderState;
 use header_verdict::Place;
@@ -13,7 +14,7 @@ pub struct FrameRead {
 }
 
 fn outside(st: ReaderState) -> FrameRead
-    ensures { λ r. ⌜ r ≡ outsideFrame st ⌝ }
+    ensures { λ r. ⌜ r ≡ refusedFrame Outside st ⌝ }
 {
     FrameRead {
         place: Place::Outside,

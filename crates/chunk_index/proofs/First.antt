@@ -13,7 +13,7 @@ use Rattle.chunk_index.specs.Layout.{Layout, frameEnd}
 use Rattle.chunk_index.specs.declared.Answer.the-variants.{Past}
 use Rattle.base_shared.specs.Lists.{first}
 use Rattle.chunk_index.specs.Split.{refusedSplit, places, firstPast, placed}
-use Rattle.chunk_index.specs.Table.{SomePast, FirstPast, NonePast}
+use Rattle.chunk_index.specs.Table.{FirstPast, NonePast}
 use Rattle.base_shared.proofs.Order.{below}
 use Rattle.base_shared.proofs.First.{first-has, none-before}
 
@@ -40,13 +40,6 @@ module _ (l : Layout) where
       ⊎-elim (λ h. absurd (omega (arith, g .earlier i h, f .past)))
       (λ h. ⊎-elim sym (λ k. absurd (omega (arith, f .earlier j k, g .past))) (eq-or-lt-of-le {n = j} {m = i} h))
       (below i j)
-
-  -- some frame ends past the room exactly if a first one does
-  pub some-first : SomePast l → (i : ℕ) × FirstPast l i
-  some-first h = ⊎-elim (λ f. (firstPast l, f .1)) (λ n. absurd (omega (arith, n .1 (h .0) (h .1), h .2))) past-or-none
-
-  pub first-some : (i : ℕ) → FirstPast l i → SomePast l
-  first-some i f = (i, f .among, f .past)
 
   -- what is answered then
   pub placed-past : (i : ℕ) → FirstPast l i → placed l ≡ refusedSplit (Past i)

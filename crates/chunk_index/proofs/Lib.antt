@@ -6,3 +6,4 @@ pub mod Table
 pub mod Tiles
 pub mod LastByte
 pub mod Spelling
+pub mod Demand

@@ -13,10 +13,17 @@ use borrow.Author.Tests.{ltb-true, ltb-false, eqb-true, eqb-false}
 use Rattle.chunk_index.specs.declared.Answer.{Answer}
 use Rattle.chunk_index.specs.declared.Answer.the-variants.{Frames, Empty, Short, Past}
 use Rattle.chunk_index.specs.Layout.{marker, lastByte, indexBytes, layoutOf}
-use Rattle.chunk_index.specs.Split.{splitNumber, splitOf}
-use Rattle.chunk_index.specs.Table.{NoBytes, Cut, SomePast, NonePast, SplitWhen}
-use Rattle.chunk_index.proofs.First.{past-or-none, some-first, first-some, placed-past, placed-none}
+use Rattle.chunk_index.specs.Split.{splitOf}
+use Rattle.chunk_index.specs.Table.{NoBytes, Cut, FirstPast, AllFit}
+use Rattle.chunk_index.proofs.First.{past-or-none, placed-past, placed-none}
 use Rattle.chunk_index.proofs.Cases.{split-empty, split-cut, split-placed}
+
+-- when each answer is given, in docs/RULES.md's order: numbers 1, 2 and 3, and a chunk that is split
+abbrev pub SplitWhen : Answer → List ℕ → Type 0
+SplitWhen Empty s = NoBytes s
+SplitWhen Short s = Cut s
+SplitWhen (Past i) s = (NoBytes s → ⊥) × (Cut s → ⊥) × FirstPast (layoutOf s) i
+SplitWhen (Frames n) s = AllFit s × (n ≡ layoutOf s .frames)
 
 answered : (s : List ℕ) → SplitWhen (splitOf s .answer) s
 answered s = go (eqb (length s) 0) refl (eqb (marker (lastByte s)) 6) refl (ltb (length s) (indexBytes (lastByte s))) refl
@@ -24,7 +31,7 @@ answered s = go (eqb (length s) 0) refl (eqb (marker (lastByte s)) 6) refl (ltb 
     placed-answered : (NoBytes s → ⊥) → (Cut s → ⊥) → SplitWhen (splitOf s .answer) s
     placed-answered n k =
         rw (split-placed s n k)
-        (⊎-elim (λ f. rw (placed-past _ _ (f .1)) (n, k, f .1)) (λ f. rw (placed-none _ (f .1)) (n, k, f .1, refl)) (past-or-none (layoutOf s)))
+        (⊎-elim (λ f. rw (placed-past _ _ (f .1)) (n, k, f .1)) (λ f. rw (placed-none _ (f .1)) ((n, k, f .1), refl)) (past-or-none (layoutOf s)))
 
     go : (a : Bool) → eqb (length s) 0 ≡ a → (b : Bool) → eqb (marker (lastByte s)) 6 ≡ b → (d : Bool) → ltb (length s) (indexBytes (lastByte s)) ≡ d → SplitWhen (splitOf s .answer) s
     go true z b m d l = let h : NoBytes s = eqb-true (length s) 0 z in rw (split-empty s h) h
@@ -40,28 +47,4 @@ exactly s a = (λ e. rw e at (answered s), answer a)
     answer Empty h = rw (split-empty s h)
     answer Short h = rw (split-cut s h)
     answer (Past i) h = rw (split-placed s (h .0) (h .1), placed-past _ i (h .2))
-    answer (Frames n) h = rw (split-placed s (h .0) (h .1), placed-none _ (h .2), h .3)
-
--- the table's lines by their numbers, 0 standing for a chunk that is split
-module _ (s : List ℕ) where
-  says : (a : Answer) → SplitWhen a s
-      → (splitNumber a ≡ 0 → (NoBytes s → ⊥) × (Cut s → ⊥) × NonePast (layoutOf s))
-      × (splitNumber a ≡ 1 → NoBytes s)
-      × (splitNumber a ≡ 2 → Cut s)
-      × (splitNumber a ≡ 3 → (NoBytes s → ⊥) × (Cut s → ⊥) × SomePast (layoutOf s))
-  says Empty h = (λ e. absurd (omega arith), λ e. h, λ e. absurd (omega arith), λ e. absurd (omega arith))
-  says Short h = (λ e. absurd (omega arith), λ e. absurd (omega arith), λ e. h, λ e. absurd (omega arith))
-  says (Past i) h = (λ e. absurd (omega arith), λ e. absurd (omega arith), λ e. absurd (omega arith), λ e. (h .0, h .1, first-some _ i (h .2)))
-  says (Frames n) h = (λ e. (h .0, h .1, h .2), λ e. absurd (omega arith), λ e. absurd (omega arith), λ e. absurd (omega arith))
-
-  pub number-0 : (splitNumber (splitOf s .answer) ≡ 0) ↔ ((NoBytes s → ⊥) × (Cut s → ⊥) × NonePast (layoutOf s))
-  number-0 = (says (splitOf s .answer) (answered s) .0, λ h. rw (split-placed s (h .0) (h .1), placed-none _ (h .2)))
-
-  pub number-1 : (splitNumber (splitOf s .answer) ≡ 1) ↔ NoBytes s
-  number-1 = (says (splitOf s .answer) (answered s) .1, λ h. rw (split-empty s h))
-
-  pub number-2 : (splitNumber (splitOf s .answer) ≡ 2) ↔ Cut s
-  number-2 = (says (splitOf s .answer) (answered s) .2, λ h. rw (split-cut s h))
-
-  pub number-3 : (splitNumber (splitOf s .answer) ≡ 3) ↔ ((NoBytes s → ⊥) × (Cut s → ⊥) × SomePast (layoutOf s))
-  number-3 = (says (splitOf s .answer) (answered s) .3, λ h. rw (split-placed s (h .0) (h .1), placed-past _ _ (some-first _ (h .2) .1)))
+    answer (Frames n) h = rw (split-placed s (h .0 .0) (h .0 .1), placed-none _ (h .0 .2), h .1)

@@ -1,5 +1,4 @@
--- The frames of a chunk that is split: how many there are, and that they tile the room; a chunk that is refused has
--- no places.
+-- The frames of a chunk that is split: how many there are, and that they tile the room.
 -- Assumes nothing.
 use Prim.Native.Nat.{ℕ, zero, suc, _+_, _<_, _≤_}
 use mathlib.Core.Path.{_≡_, refl, sym, _∙_}
@@ -12,15 +11,14 @@ use native.Mathlib.Omega.{arith}
 use lib.ListN.{length, getD, replicate, length-set, getD-replicate, List·getD-eq-default}
 use lib.Seq.{getD-set-same, getD-set-other}
 use Rattle.base_shared.specs.Choice.{pick}
-use Rattle.chunk_index.specs.declared.Answer.{Answer}
-use Rattle.chunk_index.specs.declared.Answer.the-variants.{Frames, Empty, Short, Past}
+use Rattle.chunk_index.specs.declared.Answer.the-variants.{Frames}
 use Rattle.chunk_index.specs.declared.Split.{Split}
 use Rattle.chunk_index.specs.Layout.{Layout, lastByte, framesIn, indexed, whole, byIndex, start, layoutOf}
-use Rattle.chunk_index.specs.Split.{splitNumber, refusedSplit, places, filled, splitOf}
+use Rattle.chunk_index.specs.Split.{places, filled, splitOf}
 use Rattle.chunk_index.specs.Table.{Indexed, NonePast, Tiles}
 use Rattle.base_shared.proofs.Order.{below}
-use Rattle.chunk_index.proofs.First.{placed-past, placed-none}
-use Rattle.chunk_index.proofs.Cases.{split-empty, split-cut, split-placed, layout-indexed, layout-whole}
+use Rattle.chunk_index.proofs.First.{placed-none}
+use Rattle.chunk_index.proofs.Cases.{split-placed, layout-indexed, layout-whole}
 use Rattle.chunk_index.proofs.Table.{exactly}
 
 -- eight entries, of which n are filled
@@ -43,6 +41,12 @@ module _ {A : Type 0} (d : A) (f : ℕ → A) where
   unfolding filled
   filled-rest zero i l = ⊎-elim (getD-replicate 8 i d d) (λ k. List·getD-eq-default (replicate 8 d) d k) (below i 8)
   filled-rest (suc n) i l = getD-set-other (filled d f n) n i (f n) d (λ e. omega arith) ∙ filled-rest n i (omega arith)
+
+  -- only those below n count
+  pub filled-same : (g : ℕ → A) (n : ℕ) → ((i : ℕ) → i < n → f i ≡ g i) → filled d f n ≡ filled d g n
+  unfolding filled
+  filled-same g zero h = refl
+  filled-same g (suc n) h = rw (filled-same g n (λ i l. h i (omega arith)), h n (omega arith))
 
 laid-out : (l : Layout) → (1 ≤ l .frames) × (l .frames ≤ 8) → NonePast l → Tiles l (places l)
 unfolding start
@@ -90,17 +94,7 @@ module _ (s : List ℕ) where
   pub tiles : (n : ℕ) → splitOf s .answer ≡ Frames n → Tiles (layoutOf s) (splitOf s)
   tiles n e =
       let g = exactly s (Frames n) .0 e in
-      rw (split-placed s (g .0) (g .1), placed-none _ (g .2)) (laid-out (layoutOf s) frames-range (g .2))
-
-  -- a chunk that is refused has no places
-  pub no-places : (splitNumber (splitOf s .answer) ≡ 0 → ⊥) → splitOf s ≡ refusedSplit (splitOf s .answer)
-  no-places h = go (splitOf s .answer) refl
-    where
-      go : (a : Answer) → splitOf s .answer ≡ a → splitOf s ≡ refusedSplit a
-      go Empty e = split-empty s (exactly s Empty .0 e)
-      go Short e = split-cut s (exactly s Short .0 e)
-      go (Past i) e = let g = exactly s (Past i) .0 e in split-placed s (g .0) (g .1) ∙ placed-past _ i (g .2)
-      go (Frames n) e = absurd (h (rw e))
+      rw (split-placed s (g .0 .0) (g .0 .1), placed-none _ (g .0 .2)) (laid-out (layoutOf s) frames-range (g .0 .2))
 
 -- what a caller of `split_chunk` knows of frame i
 module _ (s : List ℕ) (r : Split) (e : r ≡ splitOf s) (n : ℕ) (a : r .answer ≡ Frames n) where

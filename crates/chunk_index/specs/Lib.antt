@@ -1,4 +1,5 @@
 pub mod Layout
 pub mod Split
 pub mod Table
+pub mod Demand
 pub mod Spelling

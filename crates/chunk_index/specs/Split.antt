@@ -35,12 +35,13 @@ unfoldable pub filled : {A : Type 0} → A → (ℕ → A) → ℕ → List A
 filled d f zero = replicate 8 d
 filled d f (suc n) = set (filled d f n) n (f n)
 
--- the first frame that ends past the room, or the number of frames
-unfoldable pub firstPast : Layout → ℕ
-firstPast l = first (λ i. ltb (l .room) (frameEnd l i)) 0 (l .frames)
-
+-- a chunk that is split: the frames' places
 abbrev pub places : Layout → Split
 places l = record { answer = Frames (l .frames); at = filled 0 (start (l .size)) (l .frames); size = filled 0 (l .size) (l .frames) }
+
+-- the code's answer: the first frame that ends past the room, or the number of frames
+unfoldable pub firstPast : Layout → ℕ
+firstPast l = first (λ i. ltb (l .room) (frameEnd l i)) 0 (l .frames)
 
 -- a frame that ends past the room is refused; else the frames' places
 unfoldable pub placed : Layout → Split

@@ -1,12 +1,10 @@
--- docs/RULES.md's table, numbers 1 to 3, and what holds of a chunk that is split, stated on its bytes.
--- proofs/Table.antt and proofs/Tiles.antt show that `splitOf` is so.
+-- What docs/RULES.md's table asks of a chunk's bytes for numbers 1 to 3, and what holds of a chunk that is split.
 -- Assumes nothing.
 use Prim.Native.Nat.{ℕ, _+_, _≤_, _<_}
 use mathlib.Core.Path.{_≡_}
 use mathlib.Core.List.{List}
 use lib.ListN.{length, getD}
-use Rattle.chunk_index.specs.declared.Answer.{Answer}
-use Rattle.chunk_index.specs.declared.Answer.the-variants.{Frames, Empty, Short, Past}
+use Rattle.chunk_index.specs.declared.Answer.the-variants.{Frames}
 use Rattle.chunk_index.specs.declared.Split.{Split}
 use Rattle.chunk_index.specs.Layout.{Layout, marker, lastByte, indexBytes, indexStart, layoutOf, frameEnd}
 
@@ -19,11 +17,7 @@ NoBytes s = length s ≡ 0
 abbrev pub Cut : List ℕ → Type 0
 Cut s = (marker (lastByte s) ≡ 6) × (length s < indexBytes (lastByte s))
 
--- a frame's end lies past the room for frames
-abbrev pub SomePast : Layout → Type 0
-SomePast l = (i : ℕ) × (i < l .frames) × (l .room < frameEnd l i)
-
--- no frame's end does
+-- no frame's end lies past the room for frames
 abbrev pub NonePast : Layout → Type 0
 NonePast l = (i : ℕ) → i < l .frames → frameEnd l i ≤ l .room
 
@@ -33,12 +27,9 @@ pub record FirstPast (l : Layout) (i : ℕ) : Type 0 where
   pub earlier : (j : ℕ) → j < i → frameEnd l j ≤ l .room
   pub past : l .room < frameEnd l i
 
--- when each answer is given, in docs/RULES.md's order: numbers 1, 2 and 3, and a chunk that is split
-abbrev pub SplitWhen : Answer → List ℕ → Type 0
-SplitWhen Empty s = NoBytes s
-SplitWhen Short s = Cut s
-SplitWhen (Past i) s = (NoBytes s → ⊥) × (Cut s → ⊥) × FirstPast (layoutOf s) i
-SplitWhen (Frames n) s = (NoBytes s → ⊥) × (Cut s → ⊥) × NonePast (layoutOf s) × (n ≡ layoutOf s .frames)
+-- none of the three holds
+abbrev pub AllFit : List ℕ → Type 0
+AllFit s = (NoBytes s → ⊥) × (Cut s → ⊥) × NonePast (layoutOf s)
 
 -- the chunk has an index: the first byte of the one that the last byte announces equals it
 abbrev pub Indexed : List ℕ → Type 0

@@ -1,4 +1,3 @@
 pub mod Fault
 pub mod Walk
-pub mod Table
-pub mod Accepted
+pub mod Demand

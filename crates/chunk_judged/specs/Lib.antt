@@ -1,3 +1,3 @@
 pub mod Frames
 pub mod Answer
-pub mod Table
+pub mod Demand

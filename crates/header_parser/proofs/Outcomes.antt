@@ -7,7 +7,8 @@ use Rattle.base_bits.specs.declared.Refusal.{Refusal}
 use Rattle.base_syntax.specs.Reader.{Read, read, stopped, got, refused, bind, over}
 use Rattle.base_types.specs.declared.state.ReaderState.{ReaderState}
 use Rattle.header_answer.specs.declared.HeaderRead.{HeaderRead}
-use Rattle.header_parser.specs.Answer.{refusedWith, outcome}
+use Rattle.header_answer.specs.Answer.{refusedWith}
+use Rattle.header_parser.specs.Answer.{outcome}
 
 module _ {A B : Type 0} (st : ReaderState) (g : A → B) (m : Read A) (f : A → ℕ → HeaderRead) where
   -- a group that gave a value, and one that refused

@@ -36,7 +36,8 @@ use Rattle.header_record.specs.Record.{independent, cutLength, frameRecord}
 use Rattle.header_state.specs.State.{frameState}
 use Rattle.header_answer.specs.declared.HeaderRead.{HeaderRead}
 use Rattle.header_parser.specs.Parts.{rememberedColor, widthOf, finished, settled, framed, shownHeader}
-use Rattle.header_parser.specs.Answer.{accepted, refusedWith, outcome}
+use Rattle.header_answer.specs.Answer.{accepted, refusedWith}
+use Rattle.header_parser.specs.Answer.{outcome}
 use Rattle.header_parser.proofs.Outcomes.{came, came-not}
 
 module _ (st : ReaderState) (profile : ℕ) (s : List ℕ) (p : ℕ) where

@@ -26,7 +26,8 @@ use Rattle.grammar_tables.specs.Header.{HeaderValues, showsExisting, headerFiel
 use Rattle.grammar_record.specs.Record.{lengthOf, frameOf, headerOf, stateAfter}
 use Rattle.grammar_tables.specs.Reading.{readHeader}
 use Rattle.grammar_tables.proofs.Header.{header-reads, header-size}
-use Rattle.header_parser.specs.Answer.{accepted, refusedWith, outcome, parsed}
+use Rattle.header_answer.specs.Answer.{accepted, refusedWith}
+use Rattle.header_parser.specs.Answer.{outcome, parsed}
 use Rattle.header_parser.specs.Demand.{IsSpelled, AtFault, Demanded}
 use Rattle.header_answer.specs.declared.HeaderRead.{HeaderRead}
 

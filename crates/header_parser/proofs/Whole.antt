@@ -40,7 +40,8 @@ use Rattle.grammar_tables.specs.Reading.{noFrame, readFrame, readHeader}
 use Rattle.grammar_tables.proofs.Header.{header-reads, header-size}
 use Rattle.header_answer.specs.declared.HeaderRead.{HeaderRead}
 use Rattle.header_parser.specs.Parts.{rememberedColor, widthOf, finished, framed, shownHeader}
-use Rattle.header_parser.specs.Answer.{accepted, outcome, parsed}
+use Rattle.header_answer.specs.Answer.{accepted}
+use Rattle.header_parser.specs.Answer.{outcome, parsed}
 use Rattle.header_parser.proofs.Outcomes.{outcome-bind, outcome-same}
 use Rattle.header_parser.proofs.Flat.{flatFrame, flatHeader, widthFrom, in-parts, opening-first}
 use Rattle.header_parser.proofs.Parts.{opened}

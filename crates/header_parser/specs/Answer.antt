@@ -3,23 +3,12 @@
 -- Assumes nothing.
 use Prim.Native.Nat.{ℕ}
 use mathlib.Core.List.{List}
-use Rattle.base_bits.specs.declared.Refusal.{Refusal}
 use Rattle.base_syntax.specs.Reader.{Read, read, stopped}
-use Rattle.base_types.specs.Header.{defaultHeader}
-use Rattle.base_types.specs.declared.header.Header.{Header}
 use Rattle.base_types.specs.declared.state.ReaderState.{ReaderState}
-use Rattle.header_verdict.specs.declared.Verdict.the-variants.{Accepted, Refused}
 use Rattle.grammar_tables.specs.Reading.{readHeader}
 use Rattle.grammar_record.specs.Record.{headerOf, stateAfter}
 use Rattle.header_answer.specs.declared.HeaderRead.{HeaderRead}
-
--- record
-abbrev pub accepted : Header → ReaderState → HeaderRead
-accepted h st = record { verdict = Accepted; header = h; state = st }
-
--- a refusal: the default header, and the state as it was
-abbrev pub refusedWith : ReaderState → Refusal → HeaderRead
-refusedWith st e = record { verdict = Refused e; header = defaultHeader; state = st }
+use Rattle.header_answer.specs.Answer.{accepted, refusedWith}
 
 -- reading: what it comes to: f makes an answer of its value and the place past it
 abbrev pub outcome : {A : Type 0} → ReaderState → (A → ℕ → HeaderRead) → Read A → HeaderRead

@@ -14,7 +14,7 @@ use Rattle.base_types.specs.declared.state.ReaderState.{ReaderState}
 use Rattle.grammar_tables.specs.Header.{HeaderValues, headerFields, Spelled}
 use Rattle.grammar_record.specs.Record.{headerOf, stateAfter}
 use Rattle.header_answer.specs.declared.HeaderRead.{HeaderRead}
-use Rattle.header_parser.specs.Answer.{accepted, refusedWith}
+use Rattle.header_answer.specs.Answer.{accepted, refusedWith}
 
 -- some values are spelled there, under the remembered sizes
 abbrev pub IsSpelled : List FrameSize → List ℕ → Type 0

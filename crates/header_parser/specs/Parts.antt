@@ -12,7 +12,8 @@ use Rattle.header_record.specs.Record.{independent, cutLength, frameRecord}
 use Rattle.header_state.specs.State.{frameState}
 use Rattle.header_answer.specs.declared.HeaderRead.{HeaderRead}
 use Rattle.part_color.specs.declared.Color.{Color}
-use Rattle.header_parser.specs.Answer.{accepted, outcome}
+use Rattle.header_answer.specs.Answer.{accepted}
+use Rattle.header_parser.specs.Answer.{outcome}
 use Rattle.base_types.specs.declared.header.Header.{Header}
 use Rattle.base_types.specs.Header.{showingHeader}
 use Rattle.base_enums.specs.Profile.{profileOf as profileNamed}

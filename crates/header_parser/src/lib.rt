@@ -1,7 +1,8 @@
 // A frame's header, whole: the record, and the state that it leaves.
 ghost use mathlib.Core.Path.{_≡_};
 ghost use Rattle.header_parser.specs.Parts.{rememberedColor, shownHeader, finished, settled, framed};
-ghost use Rattle.header_parser.specs.Answer.{refusedWith, parsed};
+ghost use Rattle.header_answer.specs.Answer.{refusedWith};
+ghost use Rattle.header_parser.specs.Answer.{parsed};
 use base_bits::Cursor;
 use base_bits::Next;
 use base_bits::Refusal;

@@ -16,3 +16,7 @@ verdictNumber (Refused e) = refusalNumber e
 abbrev pub placeNumber : Place → ℕ
 placeNumber Outside = 3
 placeNumber (Inside v) = verdictNumber v
+
+-- and the frame number that comes with it: a single frame is frame 0
+abbrev pub placeFrame : Place → ℕ
+placeFrame p = 0

@@ -1,6 +1,6 @@
 // What is said of a header, accepted or a refusal, and of a frame by where it lies.
 ghost use mathlib.Core.Path.{_≡_};
-ghost use Rattle.header_verdict.specs.Verdict.{verdictNumber, placeNumber};
+ghost use Rattle.header_verdict.specs.Verdict.{verdictNumber, placeNumber, placeFrame};
 use base_bits::Refusal;
 
 pub enum Verdict {
@@ -34,6 +34,16 @@ impl Place {
         match self {
             Place::Outside => 3,
             Place::Inside(v) => v.number(),
+        }
+    }
+
+    // The frame number that comes with it: a single frame is frame 0.
+    pub fn frame(self) -> usize
+        ensures { λ r. ⌜ r ≡ placeFrame self ⌝ }
+    {
+        match self {
+            Place::Outside => 0,
+            Place::Inside(_) => 0,
         }
     }
 }
