@@ -11,7 +11,7 @@ By what it changes an edit is of one of these kinds:
   both         code, and its definition or promise, alike
   promise      a promise, a comment or an import of src/, and no code
   proof        proofs/, whatever else
-One of the last two says nothing of the code, and is a fault unless the page lists it, with a reason, under EXCEPTED.
+One of the last two is a fault unless the page lists it, with a reason, under EXCEPTED.
 
 Exit 0 if all holds, 1 otherwise."""
 
