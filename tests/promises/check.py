@@ -127,8 +127,8 @@ def check_kinds(text, kinds):
         return [f"no section: {EXCEPTED}"]
     excepted = set(re.findall(r"^- `([a-z_]+)/([a-z_0-9]+)`: \S", listed[1], re.M))
     silent = {edit for edit, k in kinds.items() if k in ("promise", "proof")}
-    return [f"{'/'.join(edit)}: changes a {kinds[edit]}, and isn't listed" for edit in sorted(silent - excepted)] + \
-        [f"{'/'.join(edit)}: listed, and changes no promise alone and no proof" for edit in sorted(excepted - silent)]
+    return [f"{'/'.join(edit)}: of a {kinds[edit]}, and not listed" for edit in sorted(silent - excepted)] + \
+        [f"{'/'.join(edit)}: listed, and of no promise alone and no proof" for edit in sorted(excepted - silent)]
 
 
 def main():
