@@ -72,7 +72,7 @@ fn whole_bytes(s: &[u8], q: usize, count: usize) -> u64
 pub fn read_bits(s: &[u8], c: Cursor, n: usize) -> Bits
     ensures { λ r. ⌜ r ≡ readBits (now (s .entry)) (c .at) n ⌝ }
 {
-    if n > 31 {
+    if n > Cursor::WIDEST {
         return Bits::TooWide;
     }
     if n == 0 {

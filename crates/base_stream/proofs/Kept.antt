@@ -27,4 +27,4 @@ stopped before mid after at next {m} e h k l t g = record { kept = kept-before b
 pub front-filled : (before part : List ℕ) (n : ℕ) (r : Filled) → n ≤ length before → length part ≡ n - 0 → FilledFrom (take (n - 0) (drop 0 before)) 0 r part → FrontFilled before n r (putMid 0 (n - 0) before part)
 front-filled before part n r h l f =
     let e : length (take (n - 0) (drop 0 before)) ≡ n = length-take (n - 0) (drop 0 before) ∙ omega (arith, length-drop 0 before) in
-    record { kept = drop-put 0 n before part (omega arith) h l; ends = rw e at (f .ends) }
+    record { kept = drop-put 0 n before part (omega arith) h l; ends = rw e at (f .ends); narrow = λ k. absurd (omega arith) }

@@ -6,7 +6,14 @@ use mathlib.Core.Bool.{Bool, true, false}
 use native.Mathlib.Omega.{arith}
 use lib.Dec.{leb}
 use borrow.Author.Tests.{leb-true, leb-false, le-leb, lt-leb}
-use Rattle.base_stream.specs.Stream.{roomLeft}
+use Rattle.base_stream.specs.Stream.{roomLeft, WroteFront}
+
+pub room-inside : (size at n : ℕ) → roomLeft size at n ≡ true → at ≤ size
+unfolding roomLeft
+room-inside size at n h = omega (arith, leb-true (at + n) size h)
+
+pub unwritten : (size n : ℕ) → WroteFront size n false
+unwritten size n h = let z : _≡_ {A = ℕ} 0 1 = cc in absurd (omega arith)
 
 pub room-past : (size at n : ℕ) → size < at → false ≡ roomLeft size at n
 unfolding roomLeft

@@ -2,7 +2,7 @@
 -- Assumes nothing.
 use Prim.Native.Nat.{ℕ, _+_, _≤_, _<_}
 use mathlib.Core.Path.{_≡_}
-use mathlib.Core.Bool.{Bool, false}
+use mathlib.Core.Bool.{Bool, true, false}
 use mathlib.Core.List.{List}
 use mathlib.Core.Logic.{_⊎_}
 use lib.Dec.{leb}
@@ -45,20 +45,26 @@ pub record FilledFrom (before : List ℕ) (at : ℕ) (r : Filled) (after : List 
   pub kept : take at after ≡ take at before
   pub ends : EndsWithin at (length before) r
 
--- of the first n bytes: those after them stay, and the input's end lies before the n-th
+-- of the first n bytes: those after them stay, and the input's end lies before the n-th; nothing is read into a buffer
+-- of fewer than n
 pub record FrontFilled (before : List ℕ) (n : ℕ) (r : Filled) (after : List ℕ) : Type 0 where
   pub kept : drop n after ≡ drop n before
   pub ends : EndsWithin 0 n r
+  pub narrow : length before < n → (r ≡ Ended 0) × (after ≡ before)
 
 -- n bytes are left from `at` on
 unfoldable pub roomLeft : ℕ → ℕ → ℕ → Bool
 roomLeft size at n = leb (at + n) size
 
+-- a buffer's first n bytes can't be written where it has fewer
+abbrev pub WroteFront : ℕ → ℕ → Bool → Type 0
+WroteFront size n r = r ≡ true → n ≤ size
+
 -- the text goes on where it is, or at 0 once it is written; only a write can fail
 abbrev pub RoomFor : ℕ → ℕ → ℕ → Room → Type 0
-RoomFor size at n (At p) = p ≡ pick (roomLeft size at n) at 0
+RoomFor size at n (At p) = (at ≤ size) × (p ≡ pick (roomLeft size at n) at 0)
 RoomFor size at n room.Failed = roomLeft size at n ≡ false
 
--- as it was to be, or because a write failed
-abbrev pub EndsAs : Ending → Ending → Type 0
-EndsAs e r = (r ≡ e) ⊎ (r ≡ Unwritten)
+-- as it was to be, once the bytes before `at` are written, or because a write failed
+abbrev pub EndsAs : ℕ → ℕ → Ending → Ending → Type 0
+EndsAs size at e r = ((r ≡ e) × (at ≤ size)) ⊎ (r ≡ Unwritten)

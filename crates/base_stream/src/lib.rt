@@ -2,7 +2,7 @@
 ghost use Prim.Native.Nat.{_+_, _≤_};
 ghost use mathlib.Core.Path.{_≡_};
 ghost use lib.ListN.{length};
-ghost use Rattle.base_stream.specs.Stream.{bytes, endOf, ReadOn, FilledFrom, FrontFilled, roomLeft, RoomFor, EndsAs};
+ghost use Rattle.base_stream.specs.Stream.{bytes, endOf, ReadOn, FilledFrom, FrontFilled, WroteFront, roomLeft, RoomFor, EndsAs};
 use libc::EINTR;
 use libc::STDERR_FILENO;
 use libc::STDIN_FILENO;
@@ -83,7 +83,7 @@ pub fn fill(buf: &mut [u8], at: usize) -> Filled
     Filled::Failed(next)
 }
 
-// Reads n bytes to a buffer's front, which is to have room for them.
+// Reads n bytes to a buffer's front, or nothing where it has no room for them.
 pub fn fill_front(buf: &mut [u8], n: usize) -> Filled
     ensures { λ r. ⌜ FrontFilled (now (buf .entry)) n r (now (buf .exit)) ⌝ }
 {
@@ -113,7 +113,9 @@ fn write_some(out: &[u8], at: usize, end: usize) -> Moved
 }
 
 // Writes a buffer's first n bytes to standard output, and answers whether all of them went out; if not, errno says why.
-fn write_front(out: &[u8], n: usize) -> bool {
+fn write_front(out: &[u8], n: usize) -> bool
+    ensures { λ r. ⌜ WroteFront (length (now (out .entry))) n r ⌝ }
+{
     if n > out.len() {
         return false;
     }
@@ -179,7 +181,7 @@ pub enum Ending {
 
 // Writes a buffer's first `at` bytes, which come before the end as it is given.
 pub fn finish(out: &[u8], at: usize, ending: Ending) -> Ending
-    ensures { λ r. ⌜ EndsAs ending r ⌝ }
+    ensures { λ r. ⌜ EndsAs (length (now (out .entry))) at ending r ⌝ }
 {
     if !write_front(out, at) {
         return Ending::Unwritten;

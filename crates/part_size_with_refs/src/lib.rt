@@ -10,7 +10,7 @@ use base_size::FrameSize;
 use part_refs::Refs;
 use part_sizes::SizesRead;
 
-pub const REFS_PER_FRAME: usize = 3;
+const REFS_PER_FRAME: usize = 3;
 
 // What the found_ref flags say: which reference gives the size, or none.
 enum Found {

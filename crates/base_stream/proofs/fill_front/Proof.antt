@@ -1,11 +1,11 @@
-use native.Mathlib.Omega.{arith}
+use mathlib.Core.Path.{refl}
 use Rattle.base_stream.proofs.Kept.{front-filled}
 use borrow.Author.Needs.{needs}
 use Rattle.base_stream.proofs.fill_front.Statement.{statement}
 use Rattle.base_stream.proofs.fill_front.Tie as tie
 
 returns : tie.Need-returns
-returns c = search needs
+returns c = record { kept = refl; ends = search needs; narrow = λ _. (refl, refl) }
 
 sub-fill : tie.Need-sub-fill
 sub-fill c = search needs

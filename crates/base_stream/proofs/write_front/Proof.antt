@@ -2,6 +2,7 @@ use Prim.Native.Nat.{_≤_}
 use native.Mathlib.Omega.{arith}
 use lib.ListN.{length}
 use borrow.Author.Needs.{needs}
+use Rattle.base_stream.proofs.Left.{unwritten}
 use Rattle.base_stream.proofs.write_front.Statement.{statement}
 use Rattle.base_stream.proofs.write_front.Tie as tie
 
@@ -12,7 +13,7 @@ abbrev μ-loop : tie.MeasureT-loop
 μ-loop out n at₀ left₀ at left = left
 
 returns : tie.Need-returns Inv-loop μ-loop
-returns c = search needs
+returns c = unwritten _ _
 
 loop-holds : tie.Need-loop-holds Inv-loop μ-loop
 loop-holds c = search needs
