@@ -100,8 +100,13 @@ PARTS = {
         [("", "base_shared/* base_little/* ivf_*/*")]),
     "listing": Part(
         {"": "the listing"},
-        "text_frame_line/src/lib.frame_line text_listing/src/lib.*",
-        [("", "base_shared/* base_bytes/* text_*/*")]),
+        "listing_file/specs/Listing.listing text_frame_line/src/lib.frame_line text_listing/src/lib.*",
+        [("", "base_shared/* base_bytes/* ivf_file/specs/Records ivf_walk/specs/Said text_*/* listing_file/specs/*")]),
+    "lister": Part(
+        {"": "how a lister is fed, and what it wants"},
+        "listing_lister/src/lib.Lister::new listing_lister/src/lib.feed listing_lister/specs/Arrival.putOut "
+        "listing_lister/specs/Arrival.joined",
+        [("", "base_shared/* base_bytes/* ivf_*/* listing_lister/*")]),
 }
 PROMISES = "the promises of these functions, and the theorems' statements"
 

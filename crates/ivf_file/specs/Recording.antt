@@ -6,7 +6,7 @@ use mathlib.Core.List.{List, [], _∷_, _++_, map}
 use lib.Dec.{ltb}
 use lib.ListN.{length}
 use Rattle.ivf_file.specs.declared.Record.{Record}
-use Rattle.ivf_file.specs.Records.{Records, dataOf}
+use Rattle.ivf_file.specs.Records.{Records, recordData}
 use Rattle.ivf_file.specs.Spelling.{FileValues, spellHeader, FileRanged, spellRecord}
 
 -- what a record says
@@ -42,7 +42,7 @@ pub record Recording (f : List ℕ) (v : FileValues) (vs : List RecordValues) (l
 
 -- what a record of a file says
 abbrev pub recordValues : List ℕ → Record → RecordValues
-recordValues f r = record { time = r .time; bytes = dataOf f r }
+recordValues f r = record { time = r .time; bytes = recordData f r }
 
 -- a file's records say these values in order, and another is cut short exactly if something is left over
 abbrev pub Say : List ℕ → Records → List RecordValues → List ℕ → Type 0

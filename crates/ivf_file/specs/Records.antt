@@ -37,5 +37,5 @@ recordsFrom (suc n) f p = follow (recordOf f p) (recordsFrom n f)
 abbrev pub recordsOf : List ℕ → Records
 recordsOf f = recordsFrom (length f) f headerBytes
 
-abbrev pub dataOf : List ℕ → Record → List ℕ
-dataOf f r = take (r .length) (drop (r .«data») f)
+abbrev pub recordData : List ℕ → Record → List ℕ
+recordData f r = take (r .length) (drop (r .«data») f)

@@ -25,7 +25,7 @@ use Rattle.ivf_walk.specs.declared.Event.the-variants.{More, Pass, NoFil
 use Rattle.ivf_walk.specs.declared.Event.the-variants as event
 use Rattle.ivf_walk.specs.declared.Turn.{Turn}
 use Rattle.ivf_walk.specs.Turn.{takes, fileTurn, startTurn, turnBy, skipTurn, turnOf}
-use Rattle.ivf_walk.specs.Rest.{Stands}
+use Rattle.ivf_walk.specs.Rest.{FromStart}
 use Rattle.ivf_walk.proofs.Steps.{all-there, too-few, enough, all-passed, cut-inside, part-passed, AtHand, next-there}
 
 -- how many turns are left at most where nothing is at hand
@@ -83,7 +83,7 @@ pub record Moves (stage : Stage) (ended : Bool) (m : ℕ) (t : Turn) : Type 0 wh
   pub brings : pickT (goesOn (t .event)) (turnsLeft (t .stage) + (m - t .used) < turnsLeft stage + m) ((t .stage ≡ Over) ⊎ ((ended ≡ false) × (m - t .used < 65548)))
   -- each record takes two bytes or more
   pub pays : 2 * (counted (t .event) + passing (t .stage)) ≤ 2 * passing stage + t .used
-  pub stands : (p : ℕ) → Stands stage p → Stands (t .stage) (p + t .used)
+  pub stands : (p : ℕ) → FromStart stage p → FromStart (t .stage) (p + t .used)
 
 -- a turn that ends the walk
 ends : (stage : Stage) (ended : Bool) (m used : ℕ) (e : Event) → used ≤ m → DataFits m e → goesOn e ≡ false → counted e ≡ 0 → Moves stage ended m (takes e used Over)

@@ -31,7 +31,7 @@ use Rattle.ivf_walk.specs.Said.{Said, opened, chunk, tooLong, end, recor
 use Rattle.ivf_walk.specs.Said as said
 use Rattle.ivf_walk.specs.Turn.{fileTurn, startTurn, turnBy, skipTurn, turnOf}
 use Rattle.ivf_walk.proofs.Steps.{all-there, too-few, enough, all-passed, cut-inside, part-passed}
-use Rattle.ivf_walk.specs.Rest.{saidFrom, restSaid, eventSaid, Stands}
+use Rattle.ivf_walk.specs.Rest.{saidFrom, restSaid, eventSaid, FromStart}
 
 -- a part of a part
 pub part : {A : Type 0} (k n m : ℕ) (l : List A) → k + n ≤ m → take n (drop k (take m l)) ≡ take n (drop k l)
@@ -167,7 +167,7 @@ module _ (f : List ℕ) (p m : ℕ) (inside : p + m ≤ length f) where
           let o : p + m + (left - m) ≡ p + left = omega arith in
           rw (← part-passed left hand (omega (arith, size)), size, o)
 
-  pub turn-says : (stage : Stage) → Stands stage p → (ended : Bool) → (ended ≡ true → p + m ≡ length f) → Says (restSaid f stage p) (turnOf stage hand ended)
+  pub turn-says : (stage : Stage) → FromStart stage p → (ended : Bool) → (ended ≡ true → p + m ≡ length f) → Says (restSaid f stage p) (turnOf stage hand ended)
   unfolding restSaid
   turn-says Start z ended all = start-says z ended all
   turn-says Records z ended all = record-says ended all

@@ -37,8 +37,8 @@ eventSaid s End = end ∷ []
 eventSaid s event.Over = []
 
 -- a walk starts with the file
-abbrev pub Stands : Stage → ℕ → Type 0
-Stands Start p = p ≡ 0
-Stands Records p = Unit
-Stands (Skip left) p = Unit
-Stands Over p = Unit
+abbrev pub FromStart : Stage → ℕ → Type 0
+FromStart Start p = p ≡ 0
+FromStart Records p = Unit
+FromStart (Skip left) p = Unit
+FromStart Over p = Unit

@@ -7,7 +7,7 @@ use lib.Dec.{ltb}
 use Rattle.base_shared.specs.Choice.{pick}
 use Rattle.ivf_file.specs.declared.Record.{Record}
 use Rattle.ivf_file.specs.File.{isIvf}
-use Rattle.ivf_file.specs.Records.{Records, recordsOf, dataOf}
+use Rattle.ivf_file.specs.Records.{Records, recordsOf, recordData}
 
 pub data Said : Type 0 where
   -- 7, and nothing else
@@ -23,7 +23,7 @@ pub data Said : Type 0 where
   end : Said
 
 abbrev pub recordSaid : List ℕ → Record → Said
-recordSaid f r = pick (ltb 65536 (r .length)) tooLong (chunk (dataOf f r))
+recordSaid f r = pick (ltb 65536 (r .length)) tooLong (chunk (recordData f r))
 
 abbrev pub recordsSaid : List ℕ → Records → List Said
 recordsSaid f rs = map (recordSaid f) (rs .whole) ++ (pick (rs .cut) cut end ∷ [])

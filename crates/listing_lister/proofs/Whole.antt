@@ -19,7 +19,7 @@ use Rattle.ivf_walk.specs.declared.Event.the-variants.{More, Pass, NoFile, Open
 use Rattle.ivf_walk.specs.declared.Event.the-variants as event
 use Rattle.ivf_walk.specs.declared.Turn.{Turn}
 use Rattle.ivf_walk.specs.Said.{Said, fileSaid}
-use Rattle.ivf_walk.specs.Rest.{restSaid, eventSaid, Stands}
+use Rattle.ivf_walk.specs.Rest.{restSaid, eventSaid, FromStart}
 use Rattle.ivf_walk.proofs.Rest.{turn-says}
 use Rattle.ivf_walk.proofs.Progress.{turnsLeft, goesOn, counted, passing, Moves, turn-moves}
 use Rattle.text_line.specs.Line.{Word, textOf}
@@ -154,7 +154,7 @@ module _ (f : List ℕ) (small : length f < 2 ^ 64) where
   textLeft l p = textOf (linesLeft l (restSaid f (l .stage) p))
 
   record Standing (l : Lister) (p : ℕ) : Type 0 where
-    stands : Stands (l .stage) p
+    stands : FromStart (l .stage) p
     few : 2 * (l .chunks + passing (l .stage)) ≤ p
     fewer : l .refused ≤ l .chunks
 
