@@ -6,6 +6,7 @@ use Rattle.base_types.specs.declared.state.ReaderState.{ReaderState}
 use Rattle.base_types.specs.ReaderState.{freshState}
 use Rattle.chunk_answer.specs.declared.ChunkRead.{ChunkRead}
 use Rattle.chunk_parser.specs.Answer.{chunkOf}
+use Rattle.ivf_file.specs.File.{fileFrame}
 use Rattle.ivf_walk.specs.Said.{Said, noFile, opened, chunk, tooLong, cut, end, fileSaid}
 use Rattle.text_line.specs.Line.{Word, textOf}
 use Rattle.text_listing.specs.Lines.{columnLine, refusedLine, fileRefusedLine, lastLine}
@@ -19,7 +20,7 @@ linesOf chunks refused st (opened ∷ others) = columnLine ∷ linesOf chunks re
 linesOf chunks refused st (chunk bytes ∷ others) =
     let r = chunkOf bytes st in
     chunkLines chunks r ++ linesOf (chunks + 1) (refused + refusals (r .answer)) (r .state) others
-linesOf chunks refused st (tooLong ∷ others) = refusedLine chunks 9 0 ∷ linesOf (chunks + 1) (refused + 1) st others
+linesOf chunks refused st (tooLong ∷ others) = refusedLine chunks 9 fileFrame ∷ linesOf (chunks + 1) (refused + 1) st others
 linesOf chunks refused st (cut ∷ others) = fileRefusedLine 8 ∷ lastLine chunks refused ∷ linesOf chunks refused st others
 linesOf chunks refused st (end ∷ others) = lastLine chunks refused ∷ linesOf chunks refused st others
 

@@ -29,7 +29,7 @@ use Rattle.listing_file.specs.Listing.{linesOf, listing}
 use Rattle.listing_lister.specs.declared.Lister.{Lister}
 use Rattle.listing_lister.specs.Lister.{freshLister, oneMore, refusedAfter}
 use Rattle.listing_lister.specs.Feed.{wantsOf, readOf, linesBy, listerBy, turnAt}
-use Rattle.listing_lister.specs.Arrival.{Calls, called, behind, isAgain, calls, fed, arrives, putOut, joined}
+use Rattle.listing_lister.specs.Arrival.{Calls, Little, called, behind, isAgain, calls, fed, arrives, putOut, joined}
 
 true-false : true ≡ false → ⊥
 true-false e = let z : _≡_ {A = ℕ} 0 1 = ap (λ b. pick b 0 1) e in omega arith
@@ -113,10 +113,7 @@ few-turns Records m = omega arith
 few-turns (Skip left) m = omega arith
 few-turns Over m = omega arith
 
--- after the calls all is said, or, where the file hasn't ended, more is wanted and little is kept
-abbrev pub Little : Bool → Calls → Type 0
-Little ended c = (c .lister .stage ≡ Over) ⊎ ((ended ≡ false) × (length (c .kept) < 65548))
-
+-- less is left to do, or the calls end
 abbrev Leaves : Lister → List ℕ → Bool → Calls → Type 0
 Leaves l s ended c = pickT (c .again) (turnsLeft (c .lister .stage) + length (c .kept) < turnsLeft (l .stage) + length s) (Little ended c)
 

@@ -1,11 +1,14 @@
 -- A file that arrives in blocks, and what a lister puts out that is fed each as it comes. proofs/Whole.antt shows that
 -- it is the listing of the whole file.
 -- Assumes nothing.
-use Prim.Native.Nat.{ℕ, zero, suc, _+_}
+use Prim.Native.Nat.{ℕ, zero, suc, _+_, _<_}
+use mathlib.Core.Path.{_≡_}
+use mathlib.Core.Logic.{_⊎_}
 use mathlib.Core.Bool.{Bool, true, false}
 use mathlib.Core.List.{List, [], _∷_, _++_}
 use lib.ListN.{length, drop}
 use Rattle.base_shared.specs.Choice.{pick}
+use Rattle.ivf_walk.specs.declared.Stage.the-variants.{Over}
 use Rattle.text_line.specs.Line.{textOf}
 use Rattle.listing_lister.specs.declared.Lister.{Lister}
 use Rattle.listing_lister.specs.declared.Wants.{Wants}
@@ -45,6 +48,10 @@ calls (suc n) l s ended = let c = called l s ended in pick (c .again) (behind (c
 -- all that are wanted: each but two uses a byte
 abbrev pub fed : Lister → List ℕ → Bool → Calls
 fed l s ended = calls (length s + 3) l s ended
+
+-- after which all is said, or, where the file hasn't ended, more is wanted and little is kept
+abbrev pub Little : Bool → Calls → Type 0
+Little ended c = (c .lister .stage ≡ Over) ⊎ ((ended ≡ false) × (length (c .kept) < 65548))
 
 -- each block is fed behind what was kept of those before it, and last the file's end
 unfoldable pub arrives : Lister → List ℕ → List (List ℕ) → List ℕ
