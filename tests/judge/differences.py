@@ -46,6 +46,24 @@ ENTRIES = [
     (BITS, "8000 17 1", r"- 0\n", None),
 ]
 
+# IVF files, behind the page's header H or not, and what the Rust's iterator prints of each.
+H = "444B49460000200056503930010001001E000000010000000000000000000000"
+FILES = [
+    ("", "end"),
+    (H[:-2], "end"),
+    (H + "00", "end"),
+    (H + "000000", "end"),
+    (H + "00000000", "panic"),
+    (H + "010000000000000000000000", "panic"),
+    ("00" * 44, "44 44 end"),
+]
+
+
+def iterated(programs, file):
+    """What the Rust's iterator makes of a file."""
+    out = subprocess.run([programs[0], "--packets"], input=bytes.fromhex(file), stdout=subprocess.PIPE, check=True).stdout
+    return " ".join(out.decode().split())
+
 
 def rust(programs, how, lines):
     """The Rust's answer to the last line."""
@@ -69,7 +87,8 @@ def rules(lines):
 def main(programs):
     with open(os.path.join(ROOT, "docs", "DIFFERENCES.md"), encoding="utf-8") as file:
         page = file.read()
-    others = set(re.findall(r"\b[0-9A-F]{8,}\b", page)) - {word for entry in ENTRIES for word in entry[1].split()}
+    run = {word for entry in ENTRIES for word in entry[1].split()} | {H} | {file.removeprefix(H) for file, _ in FILES}
+    others = set(re.findall(r"\b[0-9A-F]{8,}\b", page)) - run
     wrong = len(others)
     for chunk in sorted(others):
         print(f"{chunk}: on the page, and not run")
@@ -79,7 +98,11 @@ def main(programs):
         if not named or not re.search(wanted, got) or ("--hex" in how and rules(lines) != refusal):
             wrong += 1
             print(f"{lines!r} by {how}: {got[:200] if named else 'not on the page'}")
-    print(f"docs/DIFFERENCES.md: {len(ENTRIES)} inputs run, {wrong} not as it says")
+    for file, wanted in FILES:
+        if iterated(programs, file) != wanted:
+            wrong += 1
+            print(f"the file {file}: {iterated(programs, file)}")
+    print(f"docs/DIFFERENCES.md: {len(ENTRIES) + len(FILES)} inputs run, {wrong} not as it says")
     return 1 if wrong else 0
 
 
