@@ -1,2 +1,3 @@
 pub mod Lister
 pub mod Feed
+pub mod Arrival
