@@ -17,13 +17,13 @@ use Rattle.ivf_walk.specs.Said.{Said, noFile, opened, chunk, tooLong, cut, end,
 use Rattle.text_line.specs.Line.{Word, textOf}
 use Rattle.listing_file.specs.Chunk.{lineOfFrame, answerLines, refusals}
 use Rattle.listing_file.specs.Listing.{linesOf, listing}
-use Rattle.listing_items.specs.Items.{itemLine, stepped, headerAt, framesFrom, answerItems, recordsAfter, itemsOf, longForm}
+use Rattle.listing_items.specs.Items.{itemLine, stepped, headerAt, frameItems, answerItems, recordsAfter, itemsOf, longForm}
 
 module _ (c : ℕ) (r : ChunkRead) where
   -- behind the lines of the frames before i
   frame-lines : (n i : ℕ) (records : List Segmentation)
-      → valuesOf (lineOfFrame c r) i ++ map itemLine (framesFrom c r i n records) ≡ valuesOf (lineOfFrame c r) (i + n)
-  unfolding framesFrom valuesOf
+      → valuesOf (lineOfFrame c r) i ++ map itemLine (frameItems c r i n records) ≡ valuesOf (lineOfFrame c r) (i + n)
+  unfolding frameItems valuesOf
   frame-lines zero i records = rw (add-zero i) (append-nil _)
   frame-lines (suc n) i records =
       let m : i + suc n ≡ suc i + n = omega arith in

@@ -29,7 +29,7 @@ use Rattle.segment_features.specs.Features as Features
 use Rattle.segment_quant.specs.Quant as Quant
 use Rattle.segment_records.specs.Entries as Entries
 use Rattle.segment_records.specs.Segmentation as Segment
-use Rattle.listing_items.specs.Items.{framesFrom, recordsFrom, itemsOf, longForm}
+use Rattle.listing_items.specs.Items.{frameItems, recordsPast, itemsOf, longForm}
 use Rattle.listing_items.specs.Rows.{Recorded}
 
 pub recorded : Recorded
@@ -42,5 +42,5 @@ unfolding
     Clamp.clampTo Grid.gridOf Grid.rowOf Levels.levelsOf Levels.levelsAt Levels.deltaGrid Levels.pairOf
     Levels.segmentLevel Levels.levelMoved Levels.scaled Features.featuresOf Features.featuresIn
     QLists.dcQlookup8 QLists.acQlookup8 QTables.dcRow QTables.acRow QTables.dcTable QTables.acTable Quant.qindexOf Quant.scaleAt Quant.scalesAt Entries.index Entries.entriesWith Entries.entriesOf Segment.segmentWith Segment.segmentOf
-    framesFrom recordsFrom itemsOf longForm
+    frameItems recordsPast itemsOf longForm
 recorded = refl

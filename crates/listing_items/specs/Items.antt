@@ -48,19 +48,19 @@ abbrev pub headerAt : ChunkRead → ℕ → Header
 headerAt r i = getD (r .headers) i defaultHeader
 
 -- from frame i of chunk c on, so many frames
-unfoldable pub framesFrom : ℕ → ChunkRead → ℕ → ℕ → List Segmentation → List Item
-framesFrom c r i zero records = []
-framesFrom c r i (suc n) records =
+unfoldable pub frameItems : ℕ → ChunkRead → ℕ → ℕ → List Segmentation → List Item
+frameItems c r i zero records = []
+frameItems c r i (suc n) records =
     let after = stepped (headerAt r i) records in
-    frame c i (getD (r .at) i 0) (getD (r .size) i 0) (headerAt r i) after ∷ framesFrom c r (i + 1) n after
+    frame c i (getD (r .at) i 0) (getD (r .size) i 0) (headerAt r i) after ∷ frameItems c r (i + 1) n after
 
 -- the records after them
-unfoldable pub recordsFrom : ChunkRead → ℕ → ℕ → List Segmentation → List Segmentation
-recordsFrom r i zero records = records
-recordsFrom r i (suc n) records = recordsFrom r (i + 1) n (stepped (headerAt r i) records)
+unfoldable pub recordsPast : ChunkRead → ℕ → ℕ → List Segmentation → List Segmentation
+recordsPast r i zero records = records
+recordsPast r i (suc n) records = recordsPast r (i + 1) n (stepped (headerAt r i) records)
 
 abbrev pub answerItems : ℕ → ChunkRead → List Segmentation → Answer → List Item
-answerItems c r records (answer.Frames n) = framesFrom c r 0 n records
+answerItems c r records (answer.Frames n) = frameItems c r 0 n records
 answerItems c r records answer.Empty = refused c 1 0 ∷ []
 answerItems c r records answer.Short = refused c 2 0 ∷ []
 answerItems c r records (answer.Past i) = refused c 3 i ∷ []
@@ -68,7 +68,7 @@ answerItems c r records (answer.Header i e) = refused c (refusalNumber e) i ∷ 
 
 -- a refused chunk leaves them as they were
 abbrev pub recordsAfter : ChunkRead → List Segmentation → Answer → List Segmentation
-recordsAfter r records (answer.Frames n) = recordsFrom r 0 n records
+recordsAfter r records (answer.Frames n) = recordsPast r 0 n records
 recordsAfter r records answer.Empty = records
 recordsAfter r records answer.Short = records
 recordsAfter r records (answer.Past i) = records

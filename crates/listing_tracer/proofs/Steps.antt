@@ -18,7 +18,7 @@ use Rattle.ivf_walk.specs.declared.Turn.{Turn}
 use Rattle.ivf_walk.specs.Turn.{turnOf}
 use Rattle.listing_tracer.specs.declared.Tracer.{Tracer}
 use Rattle.listing_tracer.specs.declared.Yields.the-variants.{Again}
-use Rattle.listing_tracer.specs.Tracer.{afterChunk}
+use Rattle.listing_tracer.specs.Tracer.{afterAccepted}
 use Rattle.listing_tracer.specs.Traced.{quiet, refusedTraced, chunkTraced, frameTraced, turnTraced, tracedOf}
 
 -- an element that is there, whatever stands for one that isn't
@@ -39,7 +39,7 @@ other-answer t u r (answer.Past i) h = refl
 other-answer t u r (answer.Header i e) h = refl
 
 pub frames-answer : (t : Tracer) (u : Turn) (r : ChunkRead) (a : Answer) (n : ℕ) → a ≡ answer.Frames n
-    → quiet (afterChunk t (u .stage) r n) (u .used) Again ≡ chunkTraced t u r a
+    → quiet (afterAccepted t (u .stage) r n) (u .used) Again ≡ chunkTraced t u r a
 frames-answer t u r a n e = rw e
 
 module _ (t : Tracer) (s : List ℕ) (ended : Bool) where

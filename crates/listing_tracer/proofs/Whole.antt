@@ -35,7 +35,7 @@ use Rattle.ivf_walk.specs.Rest.{restSaid, eventSaid, Stands}
 use Rattle.ivf_walk.proofs.Rest.{turn-says}
 use Rattle.ivf_walk.proofs.Progress.{turnsLeft, goesOn, counted, passing, Moves, turn-moves}
 use Rattle.listing_file.specs.Chunk.{refusals}
-use Rattle.listing_items.specs.Items.{Item, framesFrom, recordsFrom, answerItems, recordsAfter, itemsOf, longForm}
+use Rattle.listing_items.specs.Items.{Item, frameItems, recordsPast, answerItems, recordsAfter, itemsOf, longForm}
 use Rattle.listing_lister.specs.Lister.{oneMore, FewFrames}
 use Rattle.listing_lister.specs.Arrival.{joined}
 use Rattle.listing_lister.proofs.Few.{few-frames}
@@ -45,7 +45,7 @@ use Rattle.listing_tracer.specs.declared.Yields.the-variants as yields
 use Rattle.listing_tracer.specs.declared.Traced.{Traced}
 use Rattle.listing_tracer.specs.Tracer.{freshTracer}
 use Rattle.listing_tracer.specs.Traced.{turnedTo, refusedTraced, chunkTraced, frameTraced, turnTraced, tracedOf, itemsIn}
-use Rattle.listing_tracer.specs.Arrival.{Calls, isAgain, called, behind, calls, fed, arrives, yielded}
+use Rattle.listing_tracer.specs.Arrival.{Outcome, goesAgain, oneCall, following, manyCalls, handedIn, arrivesTraced, yielded}
 use Rattle.listing_tracer.proofs.Steps.{frame-first, then-turn}
 
 true-false : true ≡ false → ⊥
@@ -82,12 +82,12 @@ module _ (s : List ℕ) (st : ReaderState) where
 -- what is still to be yielded: the frames of the chunk that was read, and the items of what is said from now on
 abbrev itemsLeft : Tracer → List Said → List Item
 itemsLeft t said =
-    framesFrom (t .chunk) (t .read) (t .frame) (t .count - t .frame) (t .records)
-    ++ itemsOf (t .chunks) (t .refused) (t .state) (recordsFrom (t .read) (t .frame) (t .count - t .frame) (t .records)) said
+    frameItems (t .chunk) (t .read) (t .frame) (t .count - t .frame) (t .records)
+    ++ itemsOf (t .chunks) (t .refused) (t .state) (recordsPast (t .read) (t .frame) (t .count - t .frame) (t .records)) said
 
 -- a frame is the first of it
 frame-yields : (t : Tracer) (said : List Said) → t .frame < t .count → itemsLeft t said ≡ itemsIn (frameTraced t) ++ itemsLeft (frameTraced t .tracer) said
-unfolding framesFrom recordsFrom
+unfolding frameItems recordsPast
 frame-yields t said h = let z : t .count - t .frame ≡ suc (t .count - (t .frame + 1)) = omega arith in rw z
 
 module _ (t : Tracer) (none-left : t .count ≤ t .frame) (h : t .chunks + 1 < 2 ^ 64) (k : t .refused + 1 < 2 ^ 64) (u : Turn) (others : List Said) where
@@ -98,7 +98,7 @@ module _ (t : Tracer) (none-left : t .count ≤ t .frame) (h : t .chunks + 1 < 2
   Yielding all r = all ≡ itemsIn r ++ itemsLeft (r .tracer) others
 
   refused-yields : (number i : ℕ) → Yielding (itemsIn (refusedTraced t u number i) ++ itemsOf (t .chunks + 1) (t .refused + 1) (t .state) (t .records) others) (refusedTraced t u number i)
-  unfolding framesFrom recordsFrom
+  unfolding frameItems recordsPast
   refused-yields number i = rw (zero-left, grows (t .chunks) h, grows (t .refused) k)
 
   answer-yields : (r : ChunkRead) (a : Answer) → KeepsBy (t .state) r a
@@ -114,7 +114,7 @@ module _ (t : Tracer) (none-left : t .count ≤ t .frame) (h : t .chunks + 1 < 2
 
   -- an event's items, and then the others'
   event-yields : (s : List ℕ) (e : Event) → Yielding (itemsLeft t (eventSaid s e ++ others)) (turnTraced t s u e)
-  unfolding framesFrom recordsFrom itemsOf
+  unfolding frameItems recordsPast itemsOf
   event-yields s More = refl
   event-yields s Pass = refl
   event-yields s NoFile = rw zero-left
@@ -129,14 +129,14 @@ module _ (t : Tracer) (none-left : t .count ≤ t .frame) (h : t .chunks + 1 < 2
 record Follows (t : Tracer) (u : Turn) (e : Event) (r : Traced) : Type 0 where
   stage : r .tracer .stage ≡ u .stage
   used : r .used ≡ u .used
-  again : isAgain (r .yields) ≡ goesOn e
+  again : goesAgain (r .yields) ≡ goesOn e
   chunks : r .tracer .chunks ≡ t .chunks + counted e
   fewer : r .tracer .refused ≤ r .tracer .chunks
   eight : r .tracer .count ≤ 8
   rest : pickT (goesOn e) Unit (r .tracer .count ≤ r .tracer .frame)
 
 module _ (t : Tracer) (none-left : t .count ≤ t .frame) (h : t .chunks + 1 < 2 ^ 64) (k : t .refused ≤ t .chunks) (few : t .count ≤ 8) (u : Turn) where
-  quietly : (e : Event) (y : Yields) → isAgain y ≡ goesOn e → counted e ≡ 0 → pickT (goesOn e) Unit (t .count ≤ t .frame) → Follows t u e (turnedTo t u y)
+  quietly : (e : Event) (y : Yields) → goesAgain y ≡ goesOn e → counted e ≡ 0 → pickT (goesOn e) Unit (t .count ≤ t .frame) → Follows t u e (turnedTo t u y)
   quietly e y g z l = record { stage = refl; used = refl; again = g; chunks = omega (arith, z); fewer = k; eight = few; rest = l }
 
   refusing : (e : Event) (number i : ℕ) → goesOn e ≡ true → counted e ≡ 1 → Follows t u e (refusedTraced t u number i)
@@ -192,7 +192,7 @@ module _ (f : List ℕ) (small : length f < 2 ^ 64) where
     eight : t .count ≤ 8
 
   -- a call or a row of them: it comes to a place, and has yielded what was to be yielded up to there
-  record Comes (t : Tracer) (p m : ℕ) (c : Calls) : Type 0 where
+  record Comes (t : Tracer) (p m : ℕ) (c : Outcome) : Type 0 where
     used : ℕ
     within : used ≤ m
     kept : c .kept ≡ take (m - used) (drop (p + used) f)
@@ -200,15 +200,15 @@ module _ (f : List ℕ) (small : length f < 2 ^ 64) where
     standing : Standing (c .tracer) (p + used)
 
   -- it stops where all is yielded, or asks for more with little left
-  abbrev Stops : Bool → ℕ → Calls → Type 0
+  abbrev Stops : Bool → ℕ → Outcome → Type 0
   Stops ended left c = ((c .tracer .stage ≡ Over) × (c .tracer .count ≤ c .tracer .frame)) ⊎ ((ended ≡ false) × (left < 65548))
 
-  record Called (t : Tracer) (p m : ℕ) (ended : Bool) (c : Calls) : Type 0 where
+  record Called (t : Tracer) (p m : ℕ) (ended : Bool) (c : Outcome) : Type 0 where
     comes : Comes t p m c
     goes : pickT (c .again) (callsLeft (c .tracer) (m - comes .used) < callsLeft t m) (Stops ended (m - comes .used) c)
 
-  abbrev callOf : Traced → List ℕ → Calls
-  callOf r s = record { items = itemsIn r; tracer = r .tracer; kept = drop (r .used) s; again = isAgain (r .yields) }
+  abbrev callOf : Traced → List ℕ → Outcome
+  callOf r s = record { items = itemsIn r; tracer = r .tracer; kept = drop (r .used) s; again = goesAgain (r .yields) }
 
   module _ (t : Tracer) (p m : ℕ) (here : Standing t p) (inside : p + m ≤ length f) (ended : Bool) (all : ended ≡ true → p + m ≡ length f) where
     abbrev hand : List ℕ
@@ -274,16 +274,16 @@ module _ (f : List ℕ) (small : length f < 2 ^ 64) where
             goes = rw (follows .again) (brings (goesOn (turn .event)) (moves .brings) (follows .rest));
           }
 
-    one-call : Called t p m ended (called t hand ended)
-    unfolding called
+    one-call : Called t p m ended (oneCall t hand ended)
+    unfolding oneCall
     one-call = go (ltb (t .frame) (t .count)) refl
       where
         go : (b : Bool) → ltb (t .frame) (t .count) ≡ b → Called t p m ended (callOf (tracedOf t hand ended) hand)
         go true e = let h = ltb-true (t .frame) (t .count) e in rw (← frame-first t hand ended h) (frame-called h)
         go false e = let h = ltb-false (t .frame) (t .count) e in rw (← then-turn t hand ended h) (turn-called h)
 
-  module _ {t : Tracer} {p m : ℕ} {c d : Calls} (a : Comes t p m c) (b : Comes (c .tracer) (p + a .used) (m - a .used) d) where
-    then-comes : Comes t p m (behind (c .items) d)
+  module _ {t : Tracer} {p m : ℕ} {c d : Outcome} (a : Comes t p m c) (b : Comes (c .tracer) (p + a .used) (m - a .used) d) where
+    then-comes : Comes t p m (following (c .items) d)
     then-comes =
         let o : p + a .used + b .used ≡ p + (a .used + b .used) = omega arith in
         let z : m - a .used - b .used ≡ m - (a .used + b .used) = omega arith in
@@ -295,22 +295,22 @@ module _ (f : List ℕ) (small : length f < 2 ^ 64) where
           standing = rw o at (b .standing);
         }
 
-  record Fed (t : Tracer) (p m : ℕ) (ended : Bool) (c : Calls) : Type 0 where
+  record Fed (t : Tracer) (p m : ℕ) (ended : Bool) (c : Outcome) : Type 0 where
     comes : Comes t p m c
     stops : Stops ended (m - comes .used) c
 
   calls-say : (n : ℕ) (t : Tracer) (p m : ℕ) → Standing t p → p + m ≤ length f → (ended : Bool) → (ended ≡ true → p + m ≡ length f) → callsLeft t m < n
-      → Fed t p m ended (calls n t (take m (drop p f)) ended)
-  unfolding calls then-comes
+      → Fed t p m ended (manyCalls n t (take m (drop p f)) ended)
+  unfolding manyCalls then-comes
   calls-say zero t p m here inside ended all h = absurd (omega arith)
   calls-say (suc n) t p m here inside ended all h =
       let one = one-call t p m here inside ended all in
-      let c = called t (take m (drop p f)) ended in
+      let c = oneCall t (take m (drop p f)) ended in
       go one (c .again) refl (λ less. calls-say n (c .tracer) (p + one .comes .used) (m - one .comes .used) (one .comes .standing) (omega (arith, one .comes .within)) ended (λ z. omega (arith, one .comes .within, all z)) (omega (arith, less)))
     where
-      go : {c : Calls} (one : Called t p m ended c) (b : Bool) → c .again ≡ b
-          → (callsLeft (c .tracer) (m - one .comes .used) < callsLeft t m → Fed (c .tracer) (p + one .comes .used) (m - one .comes .used) ended (calls n (c .tracer) (take (m - one .comes .used) (drop (p + one .comes .used) f)) ended))
-          → Fed t p m ended (pick b (behind (c .items) (calls n (c .tracer) (c .kept) ended)) c)
+      go : {c : Outcome} (one : Called t p m ended c) (b : Bool) → c .again ≡ b
+          → (callsLeft (c .tracer) (m - one .comes .used) < callsLeft t m → Fed (c .tracer) (p + one .comes .used) (m - one .comes .used) ended (manyCalls n (c .tracer) (take (m - one .comes .used) (drop (p + one .comes .used) f)) ended))
+          → Fed t p m ended (pick b (following (c .items) (manyCalls n (c .tracer) (c .kept) ended)) c)
       go {c} one true e others =
           let later = others (rw e at (one .goes)) in
           let z : m - one .comes .used - later .comes .used ≡ m - (one .comes .used + later .comes .used) = omega arith in
@@ -327,38 +327,38 @@ module _ (f : List ℕ) (small : length f < 2 ^ 64) where
       go Over = omega (arith, here .eight)
 
   -- all that is at hand is fed
-  fed-says : (t : Tracer) (p : ℕ) (s others : List ℕ) → Standing t p → p ≤ length f → s ++ others ≡ drop p f → (ended : Bool) → (ended ≡ true → others ≡ []) → Fed t p (length s) ended (fed t s ended)
+  fed-says : (t : Tracer) (p : ℕ) (s others : List ℕ) → Standing t p → p ≤ length f → s ++ others ≡ drop p f → (ended : Bool) → (ended ≡ true → others ≡ []) → Fed t p (length s) ended (handedIn t s ended)
   fed-says t p s others here within e ended ending =
       let there : take (length s) (drop p f) ≡ s = rw (← e) (take-append-seam s others) in
       let sizes : length s + length others ≡ length f - p = sym (length-append s others) ∙ ap length e ∙ length-drop p f in
       rw there at (calls-say (9 * (length s + 3)) t p (length s) here (omega arith) ended (λ z. omega (arith, ap length (ending z))) (few-calls t p (length s) here))
 
   -- what is kept is what stands before the blocks that are still to come
-  kept-there : (p m : ℕ) (others : List ℕ) (c : Calls) (t : Tracer) (a : Comes t p m c) → drop (p + m) f ≡ others → c .kept ++ others ≡ drop (p + a .used) f
+  kept-there : (p m : ℕ) (others : List ℕ) (c : Outcome) (t : Tracer) (a : Comes t p m c) → drop (p + m) f ≡ others → c .kept ++ others ≡ drop (p + a .used) f
   kept-there p m others c t a e =
       let o : p + a .used + (m - a .used) ≡ p + m = omega (arith, a .within) in
       rw (a .kept, ← e, ← o, ← drop-drop (m - a .used) (p + a .used) f) (take-append-drop (m - a .used) (drop (p + a .used) f))
 
   over-silent : (t : Tracer) (p : ℕ) → (t .stage ≡ Over) × (t .count ≤ t .frame) → itemsLeftAt t p ≡ []
-  unfolding restSaid itemsOf framesFrom
+  unfolding restSaid itemsOf frameItems
   over-silent t p e = let z : t .count - t .frame ≡ 0 = omega (arith, e .1) in rw (e .0, z)
 
-  arrives-say : (blocks : List (List ℕ)) (t : Tracer) (p : ℕ) (kept : List ℕ) → Standing t p → p ≤ length f → kept ++ joined blocks ≡ drop p f → arrives t kept blocks ≡ itemsLeftAt t p
-  unfolding arrives joined
+  arrives-say : (blocks : List (List ℕ)) (t : Tracer) (p : ℕ) (kept : List ℕ) → Standing t p → p ≤ length f → kept ++ joined blocks ≡ drop p f → arrivesTraced t kept blocks ≡ itemsLeftAt t p
+  unfolding arrivesTraced joined
   arrives-say [] t p kept here within e =
       let c = fed-says t p kept [] here within e true (λ z. refl) in
-      let over : (fed t kept true .tracer .stage ≡ Over) × (fed t kept true .tracer .count ≤ fed t kept true .tracer .frame) = ⊎-elim (λ z. z) (λ z. absurd (true-false (z .0))) (c .stops) in
-      sym (c .comes .says ∙ rw (over-silent (fed t kept true .tracer) (p + c .comes .used) over) (append-nil (fed t kept true .items)))
+      let over : (handedIn t kept true .tracer .stage ≡ Over) × (handedIn t kept true .tracer .count ≤ handedIn t kept true .tracer .frame) = ⊎-elim (λ z. z) (λ z. absurd (true-false (z .0))) (c .stops) in
+      sym (c .comes .says ∙ rw (over-silent (handedIn t kept true .tracer) (p + c .comes .used) over) (append-nil (handedIn t kept true .items)))
   arrives-say (block ∷ others) t p kept here within e =
       let s = kept ++ block in
       let e′ : s ++ joined others ≡ drop p f = append-assoc kept block (joined others) ∙ e in
       let c = fed-says t p s (joined others) here within e′ false (λ z. absurd (true-false (sym z))) in
       let sizes : length s + length (joined others) ≡ length f - p = sym (length-append s (joined others)) ∙ ap length e′ ∙ length-drop p f in
       let come : drop (p + length s) f ≡ joined others = sym (drop-drop (length s) p f) ∙ rw (← e′) (drop-append-seam s (joined others)) in
-      let later = arrives-say others (fed t s false .tracer) (p + c .comes .used) (fed t s false .kept) (c .comes .standing) (omega (arith, c .comes .within)) (kept-there p (length s) (joined others) (fed t s false) t (c .comes) come) in
+      let later = arrives-say others (handedIn t s false .tracer) (p + c .comes .used) (handedIn t s false .kept) (c .comes .standing) (omega (arith, c .comes .within)) (kept-there p (length s) (joined others) (handedIn t s false) t (c .comes) come) in
       rw later (sym (c .comes .says))
 
 -- the theorem
 pub however : (blocks : List (List ℕ)) → length (joined blocks) < 2 ^ 64 → yielded blocks ≡ longForm (joined blocks)
-unfolding longForm restSaid framesFrom recordsFrom
+unfolding longForm restSaid frameItems recordsPast
 however blocks small = arrives-say (joined blocks) small blocks freshTracer 0 [] (record { stands = refl; few = omega arith; fewer = omega arith; eight = omega arith }) (omega arith) refl

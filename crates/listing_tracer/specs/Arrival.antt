@@ -14,42 +14,42 @@ use Rattle.listing_tracer.specs.Tracer.{freshTracer}
 use Rattle.listing_tracer.specs.Traced.{tracedOf, itemsIn}
 
 -- what calls yield, the tracer after them, what is left of what was at hand, and whether another call is wanted
-pub record Calls : Type 0 where
+pub record Outcome : Type 0 where
   pub items : List Item
   pub tracer : Tracer
   pub kept : List ℕ
   pub again : Bool
 
-abbrev pub isAgain : Yields → Bool
-isAgain More = false
-isAgain Again = true
-isAgain Columns = true
-isAgain (Frame c i at size) = true
-isAgain (Refused c number i) = true
-isAgain NoFile = false
-isAgain (Cut chunks n) = false
-isAgain (Last chunks n) = false
-isAgain Over = false
+abbrev pub goesAgain : Yields → Bool
+goesAgain More = false
+goesAgain Again = true
+goesAgain Columns = true
+goesAgain (Frame c i at size) = true
+goesAgain (Refused c number i) = true
+goesAgain NoFile = false
+goesAgain (Cut chunks n) = false
+goesAgain (Last chunks n) = false
+goesAgain Over = false
 
-unfoldable pub called : Tracer → List ℕ → Bool → Calls
-called t s ended = let r = tracedOf t s ended in record { items = itemsIn r; tracer = r .tracer; kept = drop (r .used) s; again = isAgain (r .yields) }
+unfoldable pub oneCall : Tracer → List ℕ → Bool → Outcome
+oneCall t s ended = let r = tracedOf t s ended in record { items = itemsIn r; tracer = r .tracer; kept = drop (r .used) s; again = goesAgain (r .yields) }
 
-abbrev pub behind : List Item → Calls → Calls
-behind items c = record { items = items ++ c .items; tracer = c .tracer; kept = c .kept; again = c .again }
+abbrev pub following : List Item → Outcome → Outcome
+following items c = record { items = items ++ c .items; tracer = c .tracer; kept = c .kept; again = c .again }
 
 -- call after call as long as another is wanted, at most n
-unfoldable pub calls : ℕ → Tracer → List ℕ → Bool → Calls
-calls zero t s ended = record { items = []; tracer = t; kept = s; again = true }
-calls (suc n) t s ended = let c = called t s ended in pick (c .again) (behind (c .items) (calls n (c .tracer) (c .kept) ended)) c
+unfoldable pub manyCalls : ℕ → Tracer → List ℕ → Bool → Outcome
+manyCalls zero t s ended = record { items = []; tracer = t; kept = s; again = true }
+manyCalls (suc n) t s ended = let c = oneCall t s ended in pick (c .again) (following (c .items) (manyCalls n (c .tracer) (c .kept) ended)) c
 
 -- all that are wanted: each but two uses a byte, or yields a frame, of which a chunk has eight at most
-abbrev pub fed : Tracer → List ℕ → Bool → Calls
-fed t s ended = calls (9 * (length s + 3)) t s ended
+abbrev pub handedIn : Tracer → List ℕ → Bool → Outcome
+handedIn t s ended = manyCalls (9 * (length s + 3)) t s ended
 
 -- each block is handed in behind what was kept of those before it, and last the file's end
-unfoldable pub arrives : Tracer → List ℕ → List (List ℕ) → List Item
-arrives t kept [] = fed t kept true .items
-arrives t kept (block ∷ others) = let c = fed t (kept ++ block) false in c .items ++ arrives (c .tracer) (c .kept) others
+unfoldable pub arrivesTraced : Tracer → List ℕ → List (List ℕ) → List Item
+arrivesTraced t kept [] = handedIn t kept true .items
+arrivesTraced t kept (block ∷ others) = let c = handedIn t (kept ++ block) false in c .items ++ arrivesTraced (c .tracer) (c .kept) others
 
 abbrev pub yielded : List (List ℕ) → List Item
-yielded blocks = arrives freshTracer [] blocks
+yielded blocks = arrivesTraced freshTracer [] blocks

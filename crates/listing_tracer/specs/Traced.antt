@@ -24,7 +24,7 @@ use Rattle.listing_tracer.specs.declared.Tracer.{Tracer}
 use Rattle.listing_tracer.specs.declared.Yields.{Yields}
 use Rattle.listing_tracer.specs.declared.Yields.the-variants.{More, Again, Columns, Frame, Refused, NoFile, Cut, Last, Over}
 use Rattle.listing_tracer.specs.declared.Traced.{Traced}
-use Rattle.listing_tracer.specs.Tracer.{atStage, afterRefused, afterChunk, afterFrame}
+use Rattle.listing_tracer.specs.Tracer.{tracerAt, afterRefused, afterAccepted, afterFrame}
 
 -- no frame is yielded
 abbrev pub quiet : Tracer → ℕ → Yields → Traced
@@ -43,13 +43,13 @@ frameTraced t =
     }
 
 abbrev pub turnedTo : Tracer → Turn → Yields → Traced
-turnedTo t u yields = quiet (atStage t (u .stage)) (u .used) yields
+turnedTo t u yields = quiet (tracerAt t (u .stage)) (u .used) yields
 
 abbrev pub refusedTraced : Tracer → Turn → ℕ → ℕ → Traced
 refusedTraced t u number i = quiet (afterRefused t (u .stage)) (u .used) (Refused (t .chunks) number i)
 
 abbrev pub chunkTraced : Tracer → Turn → ChunkRead → Answer → Traced
-chunkTraced t u r (answer.Frames n) = quiet (afterChunk t (u .stage) r n) (u .used) Again
+chunkTraced t u r (answer.Frames n) = quiet (afterAccepted t (u .stage) r n) (u .used) Again
 chunkTraced t u r answer.Empty = refusedTraced t u 1 0
 chunkTraced t u r answer.Short = refusedTraced t u 2 0
 chunkTraced t u r (answer.Past i) = refusedTraced t u 3 i

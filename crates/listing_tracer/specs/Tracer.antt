@@ -27,8 +27,8 @@ freshTracer =
       read = refusedChunk Empty freshState;
     }
 
-abbrev pub atStage : Tracer → Stage → Tracer
-atStage t stage =
+abbrev pub tracerAt : Tracer → Stage → Tracer
+tracerAt t stage =
     record {
       stage = stage;
       chunks = t .chunks;
@@ -57,8 +57,8 @@ afterRefused t stage =
     }
 
 -- behind one that is accepted, before its frames
-abbrev pub afterChunk : Tracer → Stage → ChunkRead → ℕ → Tracer
-afterChunk t stage r n =
+abbrev pub afterAccepted : Tracer → Stage → ChunkRead → ℕ → Tracer
+afterAccepted t stage r n =
     record {
       stage = stage;
       chunks = oneMore (t .chunks);

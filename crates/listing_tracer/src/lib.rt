@@ -5,7 +5,7 @@ ghost use mathlib.Core.Path.{_≡_};
 ghost use lib.ListN.{length, getD};
 ghost use Rattle.listing_items.specs.Items.{headerAt};
 ghost use Rattle.listing_lister.specs.Lister.{oneMore};
-ghost use Rattle.listing_tracer.specs.Tracer.{freshTracer, atStage, afterRefused, afterChunk, afterFrame};
+ghost use Rattle.listing_tracer.specs.Tracer.{freshTracer, tracerAt, afterRefused, afterAccepted, afterFrame};
 ghost use Rattle.listing_tracer.specs.Traced.{turnedTo, refusedTraced, chunkTraced, dataTraced, DataThere, turnTraced, frameTraced, tracedOf};
 use base_types::Header;
 use base_types::ReaderState;
@@ -88,7 +88,7 @@ impl Tracer {
     }
 
     fn at_stage(self, stage: Stage) -> Tracer
-        ensures { λ r. ⌜ r ≡ atStage self stage ⌝ }
+        ensures { λ r. ⌜ r ≡ tracerAt self stage ⌝ }
     {
         let state = self.state;
         let records = self.records;
@@ -128,7 +128,7 @@ impl Tracer {
 
     // Behind one that is accepted, before its frames are yielded.
     fn after_chunk(self, stage: Stage, read: ChunkRead, count: usize) -> Tracer
-        ensures { λ r. ⌜ r ≡ afterChunk self stage read count ⌝ }
+        ensures { λ r. ⌜ r ≡ afterAccepted self stage read count ⌝ }
     {
         let state = read.state;
         let records = self.records;
