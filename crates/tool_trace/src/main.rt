@@ -3,7 +3,10 @@
 // A series is records: a byte 0 starts from a fresh state; a byte 1, four bytes of length, low byte first, and as
 // many bytes are a chunk; a byte 3, eight bytes of offset, eight of size, and a chunk's length and bytes are a single
 // frame of it, which is printed as the only frame of a chunk.
+// What a file's long form is made of `listing_tracer` decides: this program reads, hands in what has arrived, prints each
+// item by its form, and writes.
 ghost use Prim.Native.Nat.{_≤_};
+ghost use mathlib.Core.Path.{_≡_};
 ghost use lib.ListN.{length};
 use base_enums::BitDepth;
 use base_enums::ColorRange;
@@ -12,6 +15,7 @@ use base_enums::FrameType;
 use base_little::Little;
 use base_loop_filter::LoopFilterParams;
 use base_parts::front;
+use base_parts::rest;
 use base_quantization::QuantizationParams;
 use base_segmentation::SegmentationParams;
 use base_size::FrameSize;
@@ -23,8 +27,10 @@ use base_types::Header;
 use base_types::ReaderState;
 use chunk_answer::Answer;
 use chunk_answer::ChunkRead;
-use ivf_file::FileRead;
 use libc::STDERR_FILENO;
+use listing_tracer::Traced;
+use listing_tracer::Tracer;
+use listing_tracer::Yields;
 use segment_records::Segmentation;
 
 // Everything is printed by its form: the text, with marks in it. # stands for a number, % for one with a sign that is
@@ -502,23 +508,18 @@ fn flushed(out: &[u8], page: Page) -> Page {
     }
 }
 
-// What is remembered from chunk to chunk: the number of the next one, how many were refused, the reader's state and the
-// segment records.
+// What is remembered from chunk to chunk of a series: the number of the next one, the reader's state and the segment
+// records.
 struct Series {
-    // Of an IVF file, whose states aren't printed.
-    file: bool,
     chunk: u64,
-    refused: u64,
     page: Page,
     state: ReaderState,
     segments: [Segmentation; 8],
 }
 
-fn fresh(file: bool, page: Page) -> Series {
+fn fresh(page: Page) -> Series {
     Series {
-        file,
         chunk: 0,
-        refused: 0,
         page,
         state: ReaderState::fresh(),
         segments: [Segmentation::default(); 8],
@@ -527,10 +528,6 @@ fn fresh(file: bool, page: Page) -> Series {
 
 fn one_more(n: u64) -> u64 {
     if n < u64::MAX { n + 1 } else { n }
-}
-
-fn refused_after(n: u64, number: u8) -> u64 {
-    if number == 0 { n } else { one_more(n) }
 }
 
 // Some frames listed: the text, and the segment records after them.
@@ -624,11 +621,7 @@ fn list_single(
     }
 }
 
-// The state, where it is printed.
-fn list_state(form: &[u8], out: &mut [u8], file: bool, state: ReaderState, before: Page) -> Page {
-    if file {
-        return before;
-    }
+fn list_state(form: &[u8], out: &mut [u8], state: ReaderState, before: Page) -> Page {
     let page = flushed(out, before);
     let at = put_state(form, out, page.at, state);
     page.moved(at)
@@ -640,18 +633,14 @@ fn listed_before(series: Series) -> Listed {
     Listed { page, segments }
 }
 
-// After a chunk, with the number of its refusal, 0 for none.
 fn after_chunk(
     series: Series,
-    number: u8,
     page: Page,
     state: ReaderState,
     segments: [Segmentation; 8],
 ) -> Series {
     Series {
-        file: series.file,
         chunk: one_more(series.chunk),
-        refused: refused_after(series.refused, number),
         page,
         state,
         segments,
@@ -662,10 +651,9 @@ fn answer_chunk(form: &[u8], s: &[u8], out: &mut [u8], series: Series) -> Series
     let read = chunk_parser::parse_chunk(s, series.state);
     let listed = list_answer(form, out, series.chunk, read, listed_before(series));
     let state = read.state;
-    let answer = read.answer;
-    let page = list_state(form, out, series.file, state, listed.page);
+    let page = list_state(form, out, state, listed.page);
     let segments = listed.segments;
-    after_chunk(series, answer.number(), page, state, segments)
+    after_chunk(series, page, state, segments)
 }
 
 fn answer_frame(
@@ -694,21 +682,12 @@ fn answer_frame(
         listed_before(series),
     );
     let state = read.state;
-    let page = list_state(form, out, series.file, state, listed.page);
+    let page = list_state(form, out, state, listed.page);
     let segments = listed.segments;
-    after_chunk(series, verdict.number(), page, state, segments)
+    after_chunk(series, page, state, segments)
 }
 
-// Refusal 9.
-fn pass_chunk(form: &[u8], out: &mut [u8], series: Series) -> Series {
-    let listed = list_refusal(form, out, series.chunk, 9, 0, listed_before(series));
-    let page = listed.page;
-    let segments = listed.segments;
-    let state = series.state;
-    after_chunk(series, 9, page, state, segments)
-}
-
-// A record of the input: a chunk is so many bytes at the buffer's start.
+// A record of a series: a chunk is so many bytes at the buffer's start.
 enum Record {
     Fresh,
     Chunk(usize),
@@ -716,11 +695,6 @@ enum Record {
     Frame(usize, usize, usize),
     End,
     Unread,
-    // Of an IVF file: its header, and the refusals 7, 8 and 9.
-    File,
-    NoFile,
-    Cut,
-    Long,
 }
 
 // What stands in a series where it ends early.
@@ -766,69 +740,6 @@ fn read_frame(buf: &mut [u8]) -> Record {
     }
 }
 
-fn read_file_header() -> Record {
-    let mut head = [0u8; 32];
-    let filled = base_stream::fill(&mut head, 0);
-    match filled {
-        Filled::Full => file_header(&head),
-        Filled::Ended(_) => Record::NoFile,
-        Filled::Failed(_) => Record::Unread,
-    }
-}
-
-fn file_header(head: &[u8]) -> Record {
-    let file = ivf_file::parse_ivf_header(head);
-    match file {
-        FileRead::Header(_) => Record::File,
-        FileRead::Refused => Record::NoFile,
-    }
-}
-
-// What stands where a record's data is wanted.
-fn data(filled: Filled, whole: Record) -> Record {
-    match filled {
-        Filled::Full => whole,
-        Filled::Ended(_) => Record::Cut,
-        Filled::Failed(_) => Record::Unread,
-    }
-}
-
-// A record over the limit is read in parts and not kept.
-fn read_past(buf: &mut [u8], n: u64) -> Record {
-    let parts = n / 65536;
-    for _ in 0..parts {
-        let filled = fill_front(buf, 65536);
-        let Filled::Full = filled else {
-            return data(filled, Record::Cut);
-        };
-    }
-    data(fill_front(buf, (n % 65536) as usize), Record::Long)
-}
-
-fn read_file_data(buf: &mut [u8], n: u64) -> Record {
-    if n > 65536 {
-        return read_past(buf, n);
-    }
-    data(fill_front(buf, n as usize), Record::Chunk(n as usize))
-}
-
-fn read_file_record(buf: &mut [u8]) -> Record {
-    let mut head = [0u8; 12];
-    let filled = base_stream::fill(&mut head, 0);
-    match filled {
-        Filled::Full => file_record(buf, &head),
-        Filled::Ended(n) => { if n == 0 { Record::End } else { Record::Cut } }
-        Filled::Failed(_) => Record::Unread,
-    }
-}
-
-fn file_record(buf: &mut [u8], head: &[u8]) -> Record {
-    let Little::Value(n) = ivf_file::record_length(head) else {
-        return Record::Cut;
-    };
-    read_file_data(buf, n)
-}
-
 fn read_series_record(buf: &mut [u8]) -> Record {
     let mut kind = [4u8; 1];
     let filled = base_stream::fill(&mut kind, 0);
@@ -843,20 +754,6 @@ fn read_series_record(buf: &mut [u8]) -> Record {
     }
 }
 
-fn read_record(buf: &mut [u8], file: bool) -> Record {
-    if file {
-        read_file_record(buf)
-    } else {
-        read_series_record(buf)
-    }
-}
-
-fn open_file(form: &[u8], out: &mut [u8]) -> Series {
-    let at = put_columns(form, out, 0);
-    let page = Page { at, broken: false };
-    fresh(true, page)
-}
-
 fn after_record(form: &[u8], record: Record, buf: &[u8], out: &mut [u8], series: Series) -> Series {
     match record {
         Record::Chunk(n) => answer_chunk(form, front(buf, n), out, series),
@@ -868,17 +765,13 @@ fn after_record(form: &[u8], record: Record, buf: &[u8], out: &mut [u8], series:
             size,
             series,
         ),
-        Record::Long => pass_chunk(form, out, series),
-        Record::File => open_file(form, out),
-        _ => fresh(false, series.page),
+        _ => fresh(series.page),
     }
 }
 
 fn is_last(record: Record) -> bool {
     match record {
         Record::End => true,
-        Record::NoFile => true,
-        Record::Cut => true,
         Record::Unread => true,
         _ => false,
     }
@@ -892,13 +785,10 @@ fn finished(out: &[u8], page: Page, ending: Ending) -> Ending {
     base_stream::finish(out, page.at, ending)
 }
 
-// The end of a file. Refusal 7 prints nothing else.
-fn end(form: &[u8], out: &mut [u8], record: Record, series: Series) -> Ending {
+fn end(out: &[u8], record: Record, page: Page) -> Ending {
     match record {
-        Record::NoFile => end_refused(form, out),
-        Record::Cut => end_cut(form, out, flushed(out, series.page), series),
-        Record::Unread => end_unread(out, series.page),
-        _ => end_whole(form, out, flushed(out, series.page), series),
+        Record::Unread => end_unread(out, page),
+        _ => finished(out, page, Ending::Done),
     }
 }
 
@@ -909,65 +799,237 @@ fn end_unread(out: &[u8], page: Page) -> Ending {
     finished(out, page, Ending::Said)
 }
 
-fn end_refused(form: &[u8], out: &mut [u8]) -> Ending {
-    let at = put_file_refused(form, out, 0, 7);
-    let page = Page { at, broken: false };
-    finished(out, page, Ending::Refused)
-}
-
-fn end_cut(form: &[u8], out: &mut [u8], page: Page, series: Series) -> Ending {
-    let at = put_file_refused(form, out, page.at, 8);
-    let at = put_last(form, out, at, series.chunk, series.refused);
-    let page = page.moved(at);
-    finished(out, page, Ending::Refused)
-}
-
-fn end_whole(form: &[u8], out: &mut [u8], page: Page, series: Series) -> Ending {
-    if !series.file {
-        return finished(out, page, Ending::Done);
-    }
-    let at = put_last(form, out, page.at, series.chunk, series.refused);
-    let page = page.moved(at);
-    finished(out, page, Ending::Done)
-}
-
-// An IVF file begins with its header, a series with any record.
-fn first_record(file: bool, buf: &mut [u8]) -> Record {
-    if file {
-        read_file_header()
-    } else {
-        read_series_record(buf)
-    }
-}
-
 // Nothing says that the input ends, so the records are counted down.
-fn trace(form: &[u8], buf: &mut [u8], out: &mut [u8], file: bool) -> Ending {
+fn trace_series(form: &[u8], buf: &mut [u8], out: &mut [u8]) -> Ending {
     let page = Page {
         at: 0,
         broken: false,
     };
-    let mut series = fresh(file, page);
-    let mut record = first_record(file, buf);
+    let mut series = fresh(page);
+    let mut record = read_series_record(buf);
     let mut left = u64::MAX;
     while left > 0 {
         if is_last(record) {
-            return end(form, out, record, series);
+            return end(out, record, series.page);
         }
         series = after_record(form, record, buf, out, series);
         if series.page.broken {
             return Ending::Unwritten;
         }
-        record = read_record(buf, file);
+        record = read_series_record(buf);
         left -= 1;
     }
     Ending::Done
 }
 
-fn run(form: &[u8], file: bool) {
+// A file: what is read and not used yet lies in the input buffer from `start` to `end`. Once a read or a write fails,
+// nothing more is read.
+struct Run {
+    start: usize,
+    end: usize,
+    // Nothing follows.
+    ended: bool,
+    // A read failed behind it, which is said already.
+    failed: bool,
+    page: Page,
+    going: bool,
+    // The file is refused.
+    refused: bool,
+}
+
+impl Run {
+    fn new() -> Run {
+        Run {
+            start: 0,
+            end: 0,
+            ended: false,
+            failed: false,
+            page: Page {
+                at: 0,
+                broken: false,
+            },
+            going: true,
+            refused: false,
+        }
+    }
+
+    // So many bytes are used.
+    fn moved(mut self, used: usize) -> Run {
+        self.start = forward(self.start, self.end, used);
+        self
+    }
+
+    // The input lies at the buffer's front, up to `end`.
+    fn filled(mut self, end: usize, ended: bool) -> Run {
+        self.start = 0;
+        self.end = end;
+        self.ended = ended;
+        self
+    }
+
+    // The same, and no more can be read.
+    fn failed_behind(mut self, end: usize) -> Run {
+        self.failed = true;
+        self.filled(end, false)
+    }
+
+    fn stopped(mut self) -> Run {
+        self.going = false;
+        self
+    }
+
+    fn refused(mut self) -> Run {
+        self.refused = true;
+        self
+    }
+
+    fn with_page(mut self, page: Page) -> Run {
+        self.page = page;
+        if page.broken { self.stopped() } else { self }
+    }
+}
+
+// The place n bytes on, which is never past the end.
+fn forward(at: usize, end: usize, n: usize) -> usize {
+    if at > end {
+        return end;
+    }
+    if n > end - at {
+        return end;
+    }
+    at + n
+}
+
+// Says why a read failed, while errno tells. What was read before is still printed.
+fn say_unread() {
+    let unread = Ending::Unread;
+    unread.say();
+}
+
+// Moves what is not used to the buffer's front, and fills it.
+fn refilled(input: &mut [u8], run: Run) -> Run {
+    if run.failed {
+        return run.stopped();
+    }
+    let n = base_buffer::to_front(input, run.start, run.end);
+    let filled = base_stream::fill(input, n);
+    match filled {
+        Filled::Full => run.filled(input.len(), false),
+        Filled::Ended(end) => run.filled(end, true),
+        Filled::Failed(end) => {
+            say_unread();
+            run.failed_behind(end)
+        }
+    }
+}
+
+fn put_cut(form: &[u8], out: &mut [u8], at: usize, chunks: u64, refused: u64) -> usize {
+    let at = put_file_refused(form, out, at, 8);
+    put_last(form, out, at, chunks, refused)
+}
+
+// What a tracer yields, by its form.
+fn put_item(form: &[u8], out: &mut [u8], at: usize, traced: Traced) -> usize {
+    let yields = traced.yields;
+    let header = traced.header;
+    let records = traced.tracer.records;
+    match yields {
+        Yields::Columns => put_columns(form, out, at),
+        Yields::Frame(chunk, frame, place, size) => put_frame(
+            form,
+            out,
+            at,
+            Place {
+                chunk,
+                frame,
+                at: place,
+                size,
+            },
+            header,
+            records,
+        ),
+        Yields::Refused(chunk, number, frame) => put_refusal(form, out, at, chunk, number, frame),
+        Yields::NoFile => put_file_refused(form, out, at, 7),
+        Yields::Cut(chunks, refused) => put_cut(form, out, at, chunks, refused),
+        Yields::Last(chunks, refused) => put_last(form, out, at, chunks, refused),
+        Yields::More => at,
+        Yields::Again => at,
+        Yields::Over => at,
+    }
+}
+
+fn printed(form: &[u8], out: &mut [u8], run: Run, traced: Traced) -> Run {
+    let page = flushed(out, run.page);
+    let at = put_item(form, out, page.at, traced);
+    run.with_page(page.moved(at))
+}
+
+fn served(form: &[u8], input: &mut [u8], out: &mut [u8], run: Run, traced: Traced) -> Run {
+    let yields = traced.yields;
+    match yields {
+        Yields::More => refilled(input, run),
+        Yields::Again => run,
+        Yields::NoFile => printed(form, out, run.refused(), traced),
+        Yields::Cut(_, _) => printed(form, out, run.refused(), traced),
+        Yields::Over => run.stopped(),
+        _ => printed(form, out, run, traced),
+    }
+}
+
+fn called(input: &[u8], run: Run, tracer: Tracer) -> Traced {
+    let at_hand = rest(front(input, run.end), run.start);
+    listing_tracer::next_item(tracer, at_hand, run.ended)
+}
+
+fn end_file(out: &[u8], run: Run) -> Ending {
+    if run.failed {
+        return finished(out, run.page, Ending::Said);
+    }
+    if run.refused {
+        finished(out, run.page, Ending::Refused)
+    } else {
+        finished(out, run.page, Ending::Done)
+    }
+}
+
+// Nothing says that the input ends, so the turns are counted down.
+fn trace_file(form: &[u8], input: &mut [u8], out: &mut [u8]) -> Ending {
+    let mut run = Run::new();
+    let mut tracer = Tracer::new();
+    let mut left = u64::MAX;
+    while left > 0 && run.going {
+        let traced = called(input, run, tracer);
+        let after = traced.tracer;
+        run = served(form, input, out, run.moved(traced.used), traced);
+        tracer = after;
+        left -= 1;
+    }
+    end_file(out, run)
+}
+
+// Four times what a record may take, so that most of each read is new.
+fn input_buffer() -> [u8; 262144]
+    ensures { λ r. ⌜ 262144 ≡ length r ⌝ }
+{
+    [0; 262144]
+}
+
+fn on_file(form: &[u8]) {
+    let mut input = input_buffer();
+    let mut out = io::large_buffer();
+    let ending = trace_file(form, &mut input, &mut out);
+    ending.say();
+}
+
+fn on_series(form: &[u8]) {
     let mut buf = io::large_buffer();
     let mut out = io::large_buffer();
-    let ending = trace(form, &mut buf, &mut out, file);
+    let ending = trace_series(form, &mut buf, &mut out);
     ending.say();
+}
+
+fn trace(form: &[u8], file: bool) {
+    if file { on_file(form) } else { on_series(form) }
 }
 
 // What the arguments ask for.
@@ -992,7 +1054,7 @@ fn asked() -> Mode {
 }
 
 fn forms(file: bool) {
-    run(
+    trace(
         b"# refused # frame #\n@\
         # # <key|intra|inter|show> # # # # # #\n\
         \x20 Header { profile: Profile#, bit_depth: Depth#, subsampling_x: ?, subsampling_y: ?, \

@@ -1,22 +1,22 @@
--- `tool_trace::trace` is safe and ends: the measure is the number of records that are left, and the buffers keep
+-- `tool_trace::trace_series` is safe and ends: the measure is the number of records that are left, and the buffers keep
 -- their lengths.
 use mathlib.Core.Path.{_≡_}
 use lib.ListN.{length}
 use borrow.Author.Needs.{needs}
-use Rattle.tool_trace.proofs.trace.Statement.{statement}
-use Rattle.tool_trace.proofs.trace.Tie as tie
+use Rattle.tool_trace.proofs.trace_series.Statement.{statement}
+use Rattle.tool_trace.proofs.trace_series.Tie as tie
 
 abbrev Inv-loop : tie.InvT-loop
-Inv-loop form buf₀ out₀ file series₀ record₀ left₀ buf out series «record» left = (length buf ≡ length buf₀) × (length out ≡ length out₀)
+Inv-loop form buf₀ out₀ series₀ record₀ left₀ buf out series «record» left = (length buf ≡ length buf₀) × (length out ≡ length out₀)
 
 abbrev μ-loop : tie.MeasureT-loop
-μ-loop form buf₀ out₀ file series₀ record₀ left₀ buf out series «record» left = left
+μ-loop form buf₀ out₀ series₀ record₀ left₀ buf out series «record» left = left
 
 fresh-requires : tie.Need-fresh-requires Inv-loop μ-loop
 fresh-requires c κs = search needs
 
-first-record-requires : tie.Need-first-record-requires Inv-loop μ-loop
-first-record-requires c κs = search needs
+read-series-record-requires : tie.Need-read-series-record-requires Inv-loop μ-loop
+read-series-record-requires c κs = search needs
 
 loop-holds : tie.Need-loop-holds Inv-loop μ-loop
 loop-holds c = search needs
@@ -48,8 +48,8 @@ same-length-4 c = search needs
 returns-2 : tie.Need-returns-2 Inv-loop μ-loop
 returns-2 c = search needs
 
-read-record-requires : tie.Need-read-record-requires Inv-loop μ-loop
-read-record-requires c κs = search needs
+read-series-record-requires-2 : tie.Need-read-series-record-requires-2 Inv-loop μ-loop
+read-series-record-requires-2 c κs = search needs
 
 sub-left : tie.Need-sub-left Inv-loop μ-loop
 sub-left c = search needs
@@ -69,14 +69,14 @@ same-length-6 c = search needs
 returns-3 : tie.Need-returns-3 Inv-loop μ-loop
 returns-3 c = search needs
 
-pub trace-spec : {M : Type 1} → statement M
-trace-spec =
+pub trace-series-spec : {M : Type 1} → statement M
+trace-series-spec =
     tie.close
     (tie.spec
     Inv-loop
     μ-loop
     fresh-requires
-    first-record-requires
+    read-series-record-requires
     loop-holds
     is-last-requires
     end-requires
@@ -87,7 +87,7 @@ trace-spec =
     same-length-3
     same-length-4
     returns-2
-    read-record-requires
+    read-series-record-requires-2
     sub-left
     loop-less
     loop-again

@@ -1,0 +1,3 @@
+pub mod Tracer
+pub mod Traced
+pub mod Arrival
