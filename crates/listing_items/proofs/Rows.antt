@@ -34,7 +34,7 @@ use Rattle.listing_items.specs.Rows.{Recorded}
 
 pub recorded : Recorded
 unfolding
-    Bit.spell Bit.bitsOf Bit.bitAt Bit.reach Bit.FromStart Bit.number Bit.fits Bit.missing Many.manyFields Reader.field
+    Bit.spell Bit.bitsOf Bit.bitAt Bit.reach Bit.Stands Bit.number Bit.fits Bit.missing Many.manyFields Reader.field
     Reader.must Reader.groupIf Reader.fieldIf Tables.colorFields Tables.sizeFields Tables.renderFields Tables.refFields Tables.refsFields Tables.foundFields Tables.foundAt Tables.deltaFields Tables.loopFilterFields Tables.quantizerFields Tables.probFields Tables.probsFields Tables.featureFields Tables.featuresFields Tables.segmentationFields Tables.runFields Lists.first Tables.least Tables.most Tables.tilesFields Header.sizeOf Header.frameFields Header.headerFields Settings.deltaValue Settings.loopFilterOf Settings.quantizerOf Settings.lossless Settings.segmentationOf Record.frameOf Record.headerOf Record.stateFrom Record.stateAfter Reading.readColor Reading.readSize Reading.readRender Reading.readRef Reading.readRefs Reading.readFound Reading.readDelta Reading.readLoopFilter Reading.readQuantizer Reading.readRefDeltas Reading.readModeDeltas Reading.readProb Reading.readProbs Reading.readFeature Reading.readFeatures Reading.readSegmentation Settings.probOf Tables.featureBits Tables.featureSigned Many.many Reading.readRun Reading.readTiles Reading.readSync Reading.readFrame Reading.readHeader Lists.each Lists.valuesOf Answer.parsed
     Little.little Layout.announced Layout.cut Layout.indexed Layout.layoutOf Layout.start
     Split.filled Split.firstPast Split.placed Split.splitOf Frames.stateBefore Frames.frameRead
