@@ -14,7 +14,7 @@ use Rattle.chunk_answer.specs.declared.ChunkRead.{ChunkRead}
 use Rattle.chunk_parser.specs.Answer.{chunkOf}
 use Rattle.segment_records.specs.declared.Segmentation.{Segmentation}
 use Rattle.ivf_walk.specs.Said.{Said, noFile, opened, chunk, tooLong, cut, end, fileSaid}
-use Rattle.text_line.specs.Line.{Word, textOf}
+use Rattle.text_line.specs.Line.{textOf}
 use Rattle.listing_file.specs.Chunk.{lineOfFrame, answerLines, refusals}
 use Rattle.listing_file.specs.Listing.{linesOf, listing}
 use Rattle.listing_items.specs.Items.{itemLine, stepped, headerAt, frameItems, answerItems, recordsAfter, itemsOf, longForm}
