@@ -1,4 +1,5 @@
 // Bytes within a buffer.
+#![tactic(auto)]
 ghost use Rattle.std.specs.Prelude.{◌-◌, min, ◌≡◌};
 ghost use Rattle.base_buffer.specs.Front.{Moved};
 

@@ -1,4 +1,5 @@
 // Standard input as a program uses it up: what is read and not used yet lies in a buffer of the program's.
+#![tactic(auto)]
 ghost use Rattle.std.specs.Prelude.{◌+◌, min, ◌≡◌};
 ghost use Rattle.base_input.specs.Input.{fresh_input, used_of, hand_of, filled_to, filled_by, Refilled};
 

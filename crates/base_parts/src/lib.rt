@@ -1,4 +1,5 @@
 // The front and the rest of a slice, wherever the place lies.
+#![tactic(auto)]
 ghost use Rattle.std.specs.Prelude.{◌≡◌, take, drop};
 
 // The first n bytes, or all where there are fewer.

@@ -1,4 +1,5 @@
 // The quantizer settings of a frame.
+#![tactic(auto)]
 ghost use Rattle.std.specs.Prelude.{◌≡◌};
 ghost use Rattle.base_quantization.specs.QuantizationParams.{default_quantization};
 

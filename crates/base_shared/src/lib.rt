@@ -1,1 +1,2 @@
 // What definitions and proofs of many crates share. There is no code.
+#![tactic(auto)]

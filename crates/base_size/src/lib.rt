@@ -1,4 +1,5 @@
 // A frame's size in pixels.
+#![tactic(auto)]
 ghost use Rattle.std.specs.Prelude.{◌≡◌};
 ghost use Rattle.base_size.specs.FrameSize.{no_size};
 

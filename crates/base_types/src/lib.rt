@@ -1,4 +1,5 @@
 // The types of a VP9 header and of the reader's state, with their constructors and limits.
+#![tactic(auto)]
 mod header;
 mod state;
 

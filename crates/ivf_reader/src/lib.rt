@@ -2,6 +2,7 @@
 // over a struct that holds a reference,
 // so each is proved by hand and thin; the work is done by `ivf_file::read_record`, which takes a plain slice and a
 // place.
+#![tactic(auto)]
 ghost use Rattle.std.specs.Prelude.{◌≡◌};
 ghost use Rattle.ivf_file.specs.Record.{record_of};
 ghost use Rattle.ivf_reader.specs.Reader.{opened, reader_place_after, moved_on};

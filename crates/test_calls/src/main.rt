@@ -6,6 +6,7 @@
 // part that is shown.
 // 2, a place and a file: the record there by its length, its time, where its data starts and where the next one
 // stands; or end, or cut.
+#![tactic(auto)]
 ghost use Rattle.std.specs.Prelude.{◌≡◌, length};
 
 use base_enums::{

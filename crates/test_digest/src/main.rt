@@ -1,5 +1,6 @@
 // Answers chunks by a line of digests each, for the runs that put millions of them, and for the benchmark of a parse
 // and of a segment step. tests/reader/DIGEST.md says what is read and what is printed.
+#![tactic(auto)]
 ghost use Rattle.std.specs.Prelude.{◌≤◌, ◌≡◌, length};
 
 use base_enums::{BitDepth, ColorRange, ColorSpace};

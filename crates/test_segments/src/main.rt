@@ -3,6 +3,7 @@
 // case's records stay, so that the cost of a step can be told; 3, they stay and the four scales of each segment are
 // printed instead. Then come the fields of a header that the records follow from, spelled as `test_values` has it.
 // What lacks at the input's end is 255.
+#![tactic(auto)]
 use base_enums::{ColorRange, ColorSpace, FrameType, InterpolationFilter, Profile};
 use base_loop_filter::LoopFilterParams;
 use base_parts::rest;

@@ -1,4 +1,5 @@
 // Prints the six quantizer tables as the look-up gives them: a line for each, with its name and its 256 scales.
+#![tactic(auto)]
 use base_enums::BitDepth;
 use libc::STDOUT_FILENO;
 use segment_tables::Table;

@@ -1,4 +1,5 @@
 // The numbers of a line of text.
+#![tactic(auto)]
 ghost use Rattle.std.specs.Prelude.{◌++◌};
 ghost use Rattle.text_numeral.specs.Ascii.{ascii};
 ghost use Rattle.text_numeral.specs.Numeral.{numeral};

@@ -3,6 +3,7 @@
 // What is read and not used yet lies in the input buffer from `start` to `end`, and the text that is not written yet at
 // the front of the output buffer. Once a read or a write fails, nothing more is read; once a write fails, nothing more
 // is written.
+#![tactic(auto)]
 ghost use Rattle.std.specs.Prelude.{◌≡◌, length};
 
 use base_parts::{front, rest};

@@ -5,6 +5,7 @@
 // frame of it, which is printed as the only frame of a chunk.
 // What a file's long form is made of `listing_tracer` decides: this program reads, hands in what has arrived, prints each
 // item by its form, and writes.
+#![tactic(auto)]
 ghost use Rattle.std.specs.Prelude.{◌≤◌, ◌≡◌, length};
 
 use base_enums::{BitDepth, ColorRange, ColorSpace, FrameType};
