@@ -7,7 +7,7 @@ ghost use Rattle.base_bits.specs.Read.{read_bits, read_bits_if};
 ghost use Rattle.base_bits.specs.Refusal.{refusal_number};
 
 // A place in a slice: the number of bits before it.
-#[derive(Drop)]
+#[derive(Clone, Copy)]
 pub struct Cursor {
     pub at: usize,
 }
@@ -24,7 +24,7 @@ impl Cursor {
 }
 
 // What a bit read answers.
-#[derive(Drop)]
+#[derive(Clone, Copy)]
 pub enum Bits {
     Value(u32, Cursor),
     // The field has bits past the slice's last byte.
@@ -34,7 +34,7 @@ pub enum Bits {
 }
 
 // Why a header is refused.
-#[derive(Drop)]
+#[derive(Clone, Copy)]
 pub enum Refusal {
     FrameMarker,
     SyncCode,
@@ -54,7 +54,7 @@ impl Refusal {
 }
 
 // Where reading goes on. It stands beside a value that holds an array, which no enum can hold.
-#[derive(Drop)]
+#[derive(Clone, Copy)]
 pub enum Next {
     At(Cursor),
     Refused(Refusal),

@@ -11,7 +11,7 @@ ghost use Rattle.base_enums.specs.ColorRange.{color_range_number, color_range_nu
 ghost use Rattle.base_enums.specs.SegLvl.{seg_lvl_number};
 
 // How a block is predicted between two pixels.
-#[derive(Drop)]
+#[derive(Clone, Copy)]
 pub enum InterpolationFilter {
     EightTap,
     EightTapSmooth,
@@ -20,7 +20,7 @@ pub enum InterpolationFilter {
     Switchable,
 }
 
-#[derive(Drop)]
+#[derive(Clone, Copy)]
 pub enum TryInterpolationFilter {
     Ok(InterpolationFilter),
     Err,
@@ -66,7 +66,7 @@ impl InterpolationFilter {
 }
 
 // What a block is predicted from.
-#[derive(Drop)]
+#[derive(Clone, Copy)]
 pub enum ReferenceFrameType {
     Intra,
     Last,
@@ -74,7 +74,7 @@ pub enum ReferenceFrameType {
     AltRef,
 }
 
-#[derive(Drop)]
+#[derive(Clone, Copy)]
 pub enum TryReferenceFrameType {
     Ok(ReferenceFrameType),
     Err,
@@ -106,13 +106,13 @@ impl ReferenceFrameType {
 }
 
 // A key frame needs no frame before it.
-#[derive(Drop)]
+#[derive(Clone, Copy)]
 pub enum FrameType {
     KeyFrame,
     InterFrame,
 }
 
-#[derive(Drop)]
+#[derive(Clone, Copy)]
 pub enum TryFrameType {
     Ok(FrameType),
     Err,
@@ -140,7 +140,7 @@ impl FrameType {
 }
 
 // Profiles 1 and 3 choose the subsampling, 2 and 3 the depth.
-#[derive(Drop)]
+#[derive(Clone, Copy)]
 pub enum Profile {
     Profile0,
     Profile1,
@@ -148,7 +148,7 @@ pub enum Profile {
     Profile3,
 }
 
-#[derive(Drop)]
+#[derive(Clone, Copy)]
 pub enum TryProfile {
     Ok(Profile),
     Err,
@@ -192,14 +192,14 @@ impl Profile {
 }
 
 // Bits in a sample.
-#[derive(Drop)]
+#[derive(Clone, Copy)]
 pub enum BitDepth {
     Depth8,
     Depth10,
     Depth12,
 }
 
-#[derive(Drop)]
+#[derive(Clone, Copy)]
 pub enum TryBitDepth {
     Ok(BitDepth),
     Err,
@@ -229,7 +229,7 @@ impl BitDepth {
 }
 
 // The colour space by VP9's three-bit number.
-#[derive(Drop)]
+#[derive(Clone, Copy)]
 pub enum ColorSpace {
     Unknown,
     Bt601,
@@ -241,7 +241,7 @@ pub enum ColorSpace {
     CsSrgb,
 }
 
-#[derive(Drop)]
+#[derive(Clone, Copy)]
 pub enum TryColorSpace {
     Ok(ColorSpace),
     Err,
@@ -297,13 +297,13 @@ impl ColorSpace {
 }
 
 // Whether samples leave head room.
-#[derive(Drop)]
+#[derive(Clone, Copy)]
 pub enum ColorRange {
     StudioSwing,
     FullSwing,
 }
 
-#[derive(Drop)]
+#[derive(Clone, Copy)]
 pub enum TryColorRange {
     Ok(ColorRange),
     Err,
@@ -341,7 +341,7 @@ impl ColorRange {
 }
 
 // A segment's features, in the order in which they are read.
-#[derive(Drop)]
+#[derive(Clone, Copy)]
 pub enum SegLvl {
     AltQ,
     AltL,

@@ -6,7 +6,7 @@ ghost use Rattle.base_input.specs.Input.{fresh_input, used_of, hand_of, filled_t
 use base_parts::{front, rest};
 use base_stream::{Ending, Filled};
 
-#[derive(Drop)]
+#[derive(Clone, Copy)]
 pub struct Input {
     // It lies from `start` to `end`.
     pub start: usize,

@@ -3,7 +3,7 @@
 ghost use Rattle.std.specs.Prelude.{◌+◌, ◌≤◌, ◌≡◌, length};
 ghost use Rattle.base_little.specs.Little.{little, read_little};
 
-#[derive(Drop)]
+#[derive(Clone, Copy)]
 pub enum Little {
     Value(u64),
     Short,

@@ -3,7 +3,7 @@
 ghost use Rattle.std.specs.Prelude.{◌≡◌};
 ghost use Rattle.base_loop_filter.specs.LoopFilterParams.{default_filter, reset_filter};
 
-#[derive(Drop)]
+#[derive(Clone, Copy)]
 pub struct LoopFilterParams {
     pub level: u8,
     pub sharpness: u8,

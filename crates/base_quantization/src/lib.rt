@@ -3,7 +3,7 @@
 ghost use Rattle.std.specs.Prelude.{◌≡◌};
 ghost use Rattle.base_quantization.specs.QuantizationParams.{default_quantization};
 
-#[derive(Drop)]
+#[derive(Clone, Copy)]
 pub struct QuantizationParams {
     pub base_q_idx: u8,
     pub delta_q_y_dc: i8,

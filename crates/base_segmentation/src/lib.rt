@@ -13,7 +13,7 @@ ghost use Rattle.base_segmentation.specs.SegmentationParams.{
 use base_enums::SegLvl;
 
 // The features of segment s stand at s * 4 to s * 4 + 3 of the last two rows.
-#[derive(Drop)]
+#[derive(Clone, Copy)]
 pub struct SegmentationParams {
     pub enabled: bool,
     pub update_map: bool,

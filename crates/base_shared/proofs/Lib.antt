@@ -3,3 +3,4 @@ pub mod Each
 pub mod First
 pub mod Values
 pub mod Parts
+pub mod Other

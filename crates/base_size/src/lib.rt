@@ -3,7 +3,7 @@
 ghost use Rattle.std.specs.Prelude.{◌≡◌};
 ghost use Rattle.base_size.specs.FrameSize.{no_size};
 
-#[derive(Drop)]
+#[derive(Clone, Copy)]
 pub struct FrameSize {
     pub width: u32,
     pub height: u32,

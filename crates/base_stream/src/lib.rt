@@ -6,7 +6,7 @@ ghost use Rattle.base_stream.specs.Stream.{bytes, end_of, ReadOn, FilledFrom, Fr
 use libc::{EINTR, STDERR_FILENO, STDIN_FILENO, STDOUT_FILENO};
 
 // Why no more is read into a buffer. `io::read_full` takes a failed read for the input's end.
-#[derive(Drop)]
+#[derive(Clone, Copy)]
 pub enum Filled {
     // It is full.
     Full,
@@ -17,7 +17,7 @@ pub enum Filled {
 }
 
 // What one call moved.
-#[derive(Drop)]
+#[derive(Clone, Copy)]
 enum Moved {
     // So many bytes, none where a signal came first.
     Bytes(usize),
@@ -135,7 +135,7 @@ fn write_front(out: &[u8], n: usize) -> bool
 }
 
 // Where text goes on in a buffer.
-#[derive(Drop)]
+#[derive(Clone, Copy)]
 pub enum Room {
     At(usize),
     // A write failed, and errno says why.
@@ -167,7 +167,7 @@ pub fn make_room(out: &[u8], at: usize, n: usize) -> Room
 }
 
 // How a program ended. It can't return a status, so the last line on standard error says it.
-#[derive(Drop)]
+#[derive(Clone, Copy)]
 pub enum Ending {
     // It did what was asked.
     Done,

@@ -10,7 +10,7 @@ use lib.Dec.{T, leb, eqb, leb→le}
 use borrow.Author.Tests.{le-leb, lt-leb, eq-eqb, ne_eqb}
 use mir.Val.{Fits}
 use mir.Syntax.{w32}
-use types.Run.{OneOf}
+use Rattle.base_shared.proofs.Other.{NotTwo}
 use denote.Enum.Declared.{tag_of}
 use Rattle.base_bits.specs.declared.Bits.{Bits}
 use Rattle.base_bits.specs.declared.Bits.TheVariants.{Value, Short}
@@ -52,13 +52,12 @@ value_read x s p n {r} {v} {c} e w t = go (fits s p n) refl
         let z : ◌≡◌ {A = ℕ} 0 1 = cc in
         absurd (omega arith)
 
-pub short_read : (x : Name) (s : List ℕ) (p n : ℕ) (r : Bits) → r ≡ read_bits s p n → OneOf (1 ∷ 2 ∷ []) (tag_of the_type r) → T (leb n 31) → field x n s p ≡ stopped (cut_at x n s p)
+pub short_read : (x : Name) (s : List ℕ) (p n : ℕ) (r : Bits) → r ≡ read_bits s p n → NotTwo Value r → T (leb n 31) → field x n s p ≡ stopped (cut_at x n s p)
 short_read x s p n r e w t = go (fits s p n) refl
   where
     go : (b : Bool) → fits s p n ≡ b → field x n s p ≡ stopped (cut_at x n s p)
     go true h =
-        let o : OneOf (1 ∷ 2 ∷ []) (tag_of the_type (Value (number s p n) (record { at = p + n }))) = rw (e, narrow s p n true t h) at w in
-        absurd (⊎_elim (λ k. omega arith) (λ k. omega arith) o)
+        absurd (w _ _ (e ∙ narrow s p n true t h))
     go false h = field_cut x s p n h
 
 pub field_lt : (x : Name) (s : List ℕ) (p n : ℕ) {v e : ℕ} → field x n s p ≡ read v e → v < 2 ^ n
@@ -66,7 +65,7 @@ field_lt x s p n {v} {e} h = (field_reads.sound s p v e h).1.ranged.0.0
 
 -- the same as steps along a reading, whatever is kept of a reason: `search reading` walks a chain of reads
 module _ {E A B : Type 0} (keep : Reason → E) (x : Name) (s : List ℕ) (p n : ℕ) (f : A → B) (k : ℕ → ℕ → Read A) (r : Bits) (e : r ≡ read_bits s p n) where
-  pub stop : OneOf (1 ∷ 2 ∷ []) (tag_of the_type r) → T (leb n 31) → (w : E) → w ≡ keep (cut_at x n s p) → refused w ≡ tell keep f (bind (field x n s p) k)
+  pub stop : NotTwo Value r → T (leb n 31) → (w : E) → w ≡ keep (cut_at x n s p) → refused w ≡ tell keep f (bind (field x n s p) k)
   stop h t w ew = rw (ew, short_read x s p n r e h t)
 
   pub step : (v : ℕ) (c : Cursor) (y : Told E B) → r ≡ Value v c → T (leb n 31) → y ≡ tell keep f (k v c.at) → y ≡ tell keep f (bind (field x n s p) k)
@@ -74,7 +73,7 @@ module _ {E A B : Type 0} (keep : Reason → E) (x : Name) (s : List ℕ) (p n :
 
   -- and where the number must be m
   module _ (m : ℕ) (u : Mark) where
-    pub must_stop : OneOf (1 ∷ 2 ∷ []) (tag_of the_type r) → T (leb n 31) → (w : E) → w ≡ keep (cut_at x n s p) → refused w ≡ tell keep f (bind (must x n m u s p) k)
+    pub must_stop : NotTwo Value r → T (leb n 31) → (w : E) → w ≡ keep (cut_at x n s p) → refused w ≡ tell keep f (bind (must x n m u s p) k)
     unfolding must
     must_stop h t w ew = rw (ew, short_read x s p n r e h t)
 
@@ -88,13 +87,13 @@ module _ {E A B : Type 0} (keep : Reason → E) (x : Name) (s : List ℕ) (p n :
 
 -- a field that is there only if a test holds
 module _ {E A B : Type 0} (keep : Reason → E) (b c : Bool) (bc : b ≡ c) (x : Name) (s : List ℕ) (p n : ℕ) (f : A → B) (k : ℕ → ℕ → Read A) (r : Bits) (e : r ≡ read_bits_if b s p n) (t : T (leb n 31)) where
-  pub stop_if : OneOf (1 ∷ 2 ∷ []) (tag_of the_type r) → (w : E) → w ≡ keep (cut_at x n s p) → refused w ≡ tell keep f (bind (field_if c x n s p) k)
+  pub stop_if : NotTwo Value r → (w : E) → w ≡ keep (cut_at x n s p) → refused w ≡ tell keep f (bind (field_if c x n s p) k)
   unfolding read_bits_if field_if
   stop_if h w ew = go c (e ∙ rw bc)
     where
       go : (c : Bool) → r ≡ pick c (read_bits s p n) (Value 0 (record { at = p })) → refused w ≡ tell keep f (bind (pick c (field x n) (λ s p. read 0 p) s p) k)
       go true e = stop keep x s p n f k r e h t w ew
-      go false e = absurd (⊎_elim (λ k. omega arith) (λ k. omega arith) (rw e at h))
+      go false e = absurd (h _ _ e)
 
   pub step_if : (v : ℕ) (d : Cursor) (y : Told E B) → r ≡ Value v d → y ≡ tell keep f (k v d.at) → y ≡ tell keep f (bind (field_if c x n s p) k)
   unfolding read_bits_if field_if

@@ -7,7 +7,7 @@ use base_loop_filter::LoopFilterParams;
 use base_quantization::QuantizationParams;
 use base_segmentation::SegmentationParams;
 
-#[derive(Drop)]
+#[derive(Clone, Copy)]
 pub struct Header {
     pub profile: Profile,
     pub bit_depth: BitDepth,

@@ -7,7 +7,7 @@ use base_loop_filter::LoopFilterParams;
 use base_segmentation::SegmentationParams;
 use base_size::FrameSize;
 
-#[derive(Drop)]
+#[derive(Clone, Copy)]
 pub struct ReaderState {
     pub bit_depth: BitDepth,
     pub subsampling_x: bool,

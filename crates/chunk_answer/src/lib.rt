@@ -6,7 +6,7 @@ ghost use Rattle.chunk_answer.specs.Answer.{chunk_number, chunk_frame, refused_c
 use base_bits::Refusal;
 use base_types::{Header, MAX_FRAMES_IN_SUPERFRAME, ReaderState};
 
-#[derive(Drop)]
+#[derive(Clone, Copy)]
 pub enum Answer {
     // So many frames.
     Frames(usize),
@@ -48,7 +48,7 @@ impl Answer {
 }
 
 // On a refusal there are no places, the headers are default ones, and the state is the one before.
-#[derive(Drop)]
+#[derive(Clone, Copy)]
 pub struct ChunkRead {
     pub answer: Answer,
     pub at: [usize; MAX_FRAMES_IN_SUPERFRAME],

@@ -8,7 +8,7 @@ use base_types::{Header, ReaderState};
 use header_verdict::Place;
 
 // On a refusal the header is the default one and the state the one before.
-#[derive(Drop)]
+#[derive(Clone, Copy)]
 pub struct FrameRead {
     pub place: Place,
     pub header: Header,

@@ -7,7 +7,7 @@ use mathlib.Core.Logic.{⊎_elim}
 use native.Mathlib.Nat.{suc-mul, mul-le-mul_right, mul-le-mul}
 use native.Mathlib.Numerals.{add-one}
 use native.Mathlib.Omega.{arith}
-use types.Run.{OneOf}
+use Rattle.base_shared.proofs.Other.{NotOne}
 use denote.Enum.Declared.{tag_of}
 use lib.ListN.{length}
 use Rattle.base_little.specs.declared.Little.{Little}
@@ -34,5 +34,5 @@ module _ (s : List ℕ) (at n : ℕ) (small : n ≤ 4) (there : at + n ≤ lengt
   pub size_read : (z : ℕ) → r ≡ Value z → z ≡ little s at n
   size_read z h = cc known
 
-  pub size_there : OneOf (1 ∷ 2 ∷ []) (tag_of the_type r) → 0 ≡ little s at n
-  size_there h = absurd (⊎_elim (λ k. omega arith) (λ k. omega arith) (rw known at h))
+  pub size_there : NotOne Value r → 0 ≡ little s at n
+  size_there h = absurd (h _ known)

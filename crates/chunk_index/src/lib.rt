@@ -7,7 +7,7 @@ ghost use Rattle.chunk_index.specs.Split.{refused_split, placed, split_of};
 
 use base_little::Little;
 
-#[derive(Drop)]
+#[derive(Clone, Copy)]
 pub enum Answer {
     // So many frames.
     Frames(usize),
@@ -19,7 +19,7 @@ pub enum Answer {
 }
 
 // The frames' places, beside the answer, since no enum can hold an array.
-#[derive(Drop)]
+#[derive(Clone, Copy)]
 pub struct Split {
     pub answer: Answer,
     pub at: [usize; 8],

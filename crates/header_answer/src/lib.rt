@@ -4,7 +4,7 @@ use base_types::{Header, ReaderState};
 use header_verdict::Verdict;
 
 // On a refusal the header is the default one and the state the one before.
-#[derive(Drop)]
+#[derive(Clone, Copy)]
 pub struct HeaderRead {
     pub verdict: Verdict,
     pub header: Header,

@@ -12,13 +12,13 @@ use header_picture::{Picture, PictureRead};
 use part_color::Color;
 use part_traits::{Context, ContextRead, Kind, KindRead, Traits, TraitsRead};
 
-#[derive(Drop)]
+#[derive(Clone, Copy)]
 pub struct Shot {
     pub kind: Kind,
     pub picture: Picture,
 }
 
-#[derive(Drop)]
+#[derive(Clone, Copy)]
 pub enum ShotRead {
     Value(Shot, Cursor),
     Refused(Refusal),
@@ -66,14 +66,14 @@ fn parse_shot(
     }
 }
 
-#[derive(Drop)]
+#[derive(Clone, Copy)]
 pub struct Lead {
     pub traits: Traits,
     pub shot: Shot,
     pub context: Context,
 }
 
-#[derive(Drop)]
+#[derive(Clone, Copy)]
 pub enum LeadRead {
     Value(Lead, Cursor),
     Refused(Refusal),

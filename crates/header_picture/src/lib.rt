@@ -15,7 +15,7 @@ use part_opening::SyncRead;
 use part_refs::{Ref, Refs, Sources};
 use part_sizes::{Sizes, SizesRead};
 
-#[derive(Drop)]
+#[derive(Clone, Copy)]
 pub struct Picture {
     pub color: Color,
     pub sources: Sources,
@@ -23,7 +23,7 @@ pub struct Picture {
     pub motion: Motion,
 }
 
-#[derive(Drop)]
+#[derive(Clone, Copy)]
 pub enum PictureRead {
     Value(Picture, Cursor),
     Refused(Refusal),

@@ -12,7 +12,7 @@ use base_segmentation::SegmentationParams;
 use part_quantization::QuantizerRead;
 use part_tiles::{Tiles, TilesRead};
 
-#[derive(Drop)]
+#[derive(Clone, Copy)]
 pub struct Settings {
     pub lf: LoopFilterParams,
     pub quant: QuantizationParams,
@@ -20,7 +20,7 @@ pub struct Settings {
 }
 
 // On a refusal the settings are those that the frame starts from.
-#[derive(Drop)]
+#[derive(Clone, Copy)]
 pub struct SettingsRead {
     pub settings: Settings,
     pub next: Next,
@@ -103,13 +103,13 @@ pub fn parse_settings(
     )
 }
 
-#[derive(Drop)]
+#[derive(Clone, Copy)]
 pub struct Closing {
     pub tiles: Tiles,
     pub header_size_in_bytes: u16,
 }
 
-#[derive(Drop)]
+#[derive(Clone, Copy)]
 pub enum ClosingRead {
     Value(Closing, Cursor),
     Short,

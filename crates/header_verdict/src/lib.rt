@@ -5,7 +5,7 @@ ghost use Rattle.header_verdict.specs.Verdict.{verdict_number, place_number, pla
 
 use base_bits::Refusal;
 
-#[derive(Drop)]
+#[derive(Clone, Copy)]
 pub enum Verdict {
     Accepted,
     Refused(Refusal),
@@ -24,7 +24,7 @@ impl Verdict {
 }
 
 // Whether a frame lies in its chunk, and if so what its header says.
-#[derive(Drop)]
+#[derive(Clone, Copy)]
 pub enum Place {
     Outside,
     Inside(Verdict),

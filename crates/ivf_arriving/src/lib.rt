@@ -9,7 +9,7 @@ use base_little::Little;
 // No record with more data is listed.
 pub const MAX_DATA: u64 = 65536;
 
-#[derive(Drop)]
+#[derive(Clone, Copy)]
 pub enum Next {
     // The file ends here.
     End,

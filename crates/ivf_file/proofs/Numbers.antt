@@ -6,7 +6,7 @@ use mathlib.Core.List.{List, [], ◌∷◌}
 use mathlib.Core.Logic.{⊎_elim}
 use native.Mathlib.Nat.{pow-succ'}
 use native.Mathlib.Omega.{arith}
-use types.Run.{OneOf}
+use Rattle.base_shared.proofs.Other.{NotOne}
 use denote.Enum.Declared.{tag_of}
 use lib.ListN.{length, get_or}
 use Rattle.base_little.specs.declared.Little.{Little}
@@ -23,5 +23,5 @@ module _ (s : List ℕ) (at n : ℕ) (small : n ≤ 8) (there : at + n ≤ lengt
   pub number_read : ((i : ℕ) → get_or s i 0 < 256) → (z : ℕ) → r ≡ Value z → (z ≡ little s at n) × (z < 256 ^ n)
   number_read bytes z h = let k : z ≡ little s at n = cc known in (k, rw k (little_lt s bytes at n))
 
-  pub number_there : OneOf (1 ∷ 2 ∷ []) (tag_of the_type r) → (0 ≡ little s at n) × (0 < 256 ^ n)
-  number_there h = absurd (⊎_elim (λ k. omega arith) (λ k. omega arith) (rw known at h))
+  pub number_there : NotOne Value r → (0 ≡ little s at n) × (0 < 256 ^ n)
+  number_there h = absurd (h _ known)

@@ -7,7 +7,7 @@ ghost use Rattle.ivf_file.specs.Record.{record_of};
 
 use base_little::Little;
 
-#[derive(Drop)]
+#[derive(Clone, Copy)]
 pub struct IvfHeader {
     pub width: u16,
     pub height: u16,
@@ -16,7 +16,7 @@ pub struct IvfHeader {
     pub count: u32,
 }
 
-#[derive(Drop)]
+#[derive(Clone, Copy)]
 pub enum FileRead {
     Header(IvfHeader),
     // docs/RULES.md's 7.
@@ -83,7 +83,7 @@ pub fn parse_ivf_header(file: &[u8]) -> FileRead
     FileRead::Header(header_fields(file))
 }
 
-#[derive(Drop)]
+#[derive(Clone, Copy)]
 pub struct Record {
     // How many bytes of data there are.
     pub length: u32,
@@ -94,7 +94,7 @@ pub struct Record {
     pub next: usize,
 }
 
-#[derive(Drop)]
+#[derive(Clone, Copy)]
 pub enum RecordRead {
     Record(Record),
     // The file ends here, with its header or a record.

@@ -9,7 +9,7 @@ ghost use Rattle.ivf_reader.specs.Reader.{opened, reader_place_after, moved_on};
 
 use ivf_file::RecordRead;
 
-#[derive(Drop)]
+#[derive(Clone, Copy)]
 pub struct RecordReader<'a> {
     pub file: &'a [u8],
     pub place: usize,

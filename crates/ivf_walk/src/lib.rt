@@ -8,7 +8,7 @@ use ivf_arriving::Next;
 use ivf_file::FileRead;
 
 // How far the walk has come.
-#[derive(Drop)]
+#[derive(Clone, Copy)]
 pub enum Stage {
     // Before the file's header.
     Start,
@@ -20,7 +20,7 @@ pub enum Stage {
     Over,
 }
 
-#[derive(Drop)]
+#[derive(Clone, Copy)]
 pub enum Event {
     // Nothing, until more of the file is at hand.
     More,
@@ -41,7 +41,7 @@ pub enum Event {
     Over,
 }
 
-#[derive(Drop)]
+#[derive(Clone, Copy)]
 pub struct Turn {
     pub event: Event,
     // How many bytes it takes.

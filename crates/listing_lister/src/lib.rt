@@ -15,7 +15,7 @@ use base_types::ReaderState;
 use chunk_answer::{Answer, ChunkRead};
 use ivf_walk::{Event, Stage, Turn};
 
-#[derive(Drop)]
+#[derive(Clone, Copy)]
 pub struct Lister {
     // How far the file is listed.
     pub stage: Stage,
@@ -26,7 +26,7 @@ pub struct Lister {
 }
 
 // What a lister wants next.
-#[derive(Drop)]
+#[derive(Clone, Copy)]
 pub enum Wants {
     // `ROOM` bytes in the buffer for its text; nothing is done.
     Room,
@@ -42,7 +42,7 @@ pub enum Wants {
     Nothing,
 }
 
-#[derive(Drop)]
+#[derive(Clone, Copy)]
 pub struct Fed {
     pub lister: Lister,
     // How many bytes of the file are used.

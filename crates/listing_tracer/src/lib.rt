@@ -12,7 +12,7 @@ use chunk_answer::{Answer, ChunkRead};
 use ivf_walk::{Event, Stage, Turn};
 use segment_records::Segmentation;
 
-#[derive(Drop)]
+#[derive(Clone, Copy)]
 pub struct Tracer {
     // How far the file is read.
     pub stage: Stage,
@@ -30,7 +30,7 @@ pub struct Tracer {
 }
 
 // What is to be printed next.
-#[derive(Drop)]
+#[derive(Clone, Copy)]
 pub enum Yields {
     // Nothing, until more of the file is at hand.
     More,
@@ -52,7 +52,7 @@ pub enum Yields {
     Over,
 }
 
-#[derive(Drop)]
+#[derive(Clone, Copy)]
 pub struct Traced {
     pub tracer: Tracer,
     // How many bytes of the file are used.

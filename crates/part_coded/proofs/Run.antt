@@ -7,7 +7,7 @@ use mathlib.Core.List.{List, [], ◌∷◌}
 use native.Mathlib.Nat.{sub-zero, zero-add}
 use native.Mathlib.Omega.{arith}
 use borrow.Author.Tests.{eq-eqb, ne_eqb}
-use types.Run.{OneOf}
+use Rattle.base_shared.proofs.Other.{NotTwo}
 use denote.Enum.Declared.{tag_of}
 use Rattle.base_bits.specs.declared.Bits.{Bits}
 use Rattle.base_bits.specs.declared.Bits.TheVariants.{Value}
@@ -54,7 +54,7 @@ module _ {x : String} {b n : ℕ} {s : List ℕ} {p₀ k p : ℕ} (l : Counted x
         let z : k + 0 ≡ k = omega arith in
         sym (rw (one_left n k h, value_read (item x k) s p 1 e t tt, ne_eqb a b nb, z) at l.same)
 
-    pub counted_short : OneOf (1 ∷ 2 ∷ []) (tag_of the_type r) → refused PastEnd ≡ over (λ a. a) (read_run x b 0 n s p₀)
+    pub counted_short : NotTwo Value r → refused PastEnd ≡ over (λ a. a) (read_run x b 0 n s p₀)
     unfolding read_run
     counted_short o = sym (rw (one_left n k h, short_read (item x k) s p 1 r e o tt) at l.same)
 

@@ -24,13 +24,13 @@ fn signed_8(magnitude: u32, negative: bool) -> i8
 }
 
 // A delta behind a flag; 0 where it isn't coded.
-#[derive(Drop)]
+#[derive(Clone, Copy)]
 pub struct Delta {
     pub coded: bool,
     pub value: i8,
 }
 
-#[derive(Drop)]
+#[derive(Clone, Copy)]
 pub enum DeltaRead {
     Value(Delta, Cursor),
     Short,
@@ -72,7 +72,7 @@ fn coded_delta(s: &[u8], c: Cursor, n: usize) -> DeltaRead
     )
 }
 
-#[derive(Drop)]
+#[derive(Clone, Copy)]
 pub enum ProbRead {
     Value(u8, Cursor),
     Short,

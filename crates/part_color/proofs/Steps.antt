@@ -1,10 +1,10 @@
 -- What a caller of `parse_color_config` and `parse_intra_color` learns, as steps along its own reading.
 -- Assumes nothing.
 use Prim.Native.Nat.{ℕ}
-use mathlib.Core.Path.{◌≡◌}
+use mathlib.Core.Path.{◌≡◌, refl}
 use mathlib.Core.List.{List, [], ◌∷◌}
 use native.Mathlib.Omega.{arith}
-use types.Run.{OneOf}
+use Rattle.base_shared.proofs.Other.{NotTwo}
 use denote.Enum.Declared.{tag_of}
 use Rattle.base_bits.specs.declared.Cursor.{Cursor}
 use Rattle.base_bits.specs.declared.Refusal.TheVariants.{PastEnd}
@@ -19,8 +19,8 @@ use Rattle.grammar_tables.specs.Reading.{read_color}
 use Rattle.part_color.specs.Intra.{read_intra_color, intra_color_of}
 use Rattle.part_color.specs.contracts.ColorRead.{the_type}
 
-no_color_lem : {x : Got Color} (r : ColorRead) → view_color r ≡ x → OneOf (1 ∷ []) (tag_of the_type r) → refused PastEnd ≡ x
-no_color_lem (Value a c) e h = absurd (omega (arith, h))
+no_color_lem : {x : Got Color} (r : ColorRead) → view_color r ≡ x → NotTwo Value r → refused PastEnd ≡ x
+no_color_lem (Value a c) e h = absurd (h a c refl)
 no_color_lem Short e h = e
 
 -- n is the profile of the call, m that of the caller's reading
@@ -30,12 +30,12 @@ module _ {B D : Type 0} (s : List ℕ) (p : ℕ) (f : B → D) (n m : ℕ) (prof
       pub color_step : (a : Color) (c : Cursor) (o : Got D) → r ≡ Value a c → ((v : ColorValues) → a ≡ color_of m v → o ≡ over f (k v c.at)) → o ≡ over f (bind (read_color m s p) k)
       color_step a c o h t = group_step said (color_of m) (read_color m s p) f k a c.at o (rw (h, profile) at e) t
 
-      pub color_stop : OneOf (1 ∷ []) (tag_of the_type r) → refused PastEnd ≡ over f (bind (read_color m s p) k)
+      pub color_stop : NotTwo Value r → refused PastEnd ≡ over f (bind (read_color m s p) k)
       color_stop h = group_stop said (color_of m) (read_color m s p) f k PastEnd (no_color_lem r (rw profile at e) h)
 
     module _ (e : view_color r ≡ over (intra_color_of n) (read_intra_color n s p)) where
       pub intra_color_step : (a : Color) (c : Cursor) (o : Got D) → r ≡ Value a c → ((v : ColorValues) → a ≡ intra_color_of m v → o ≡ over f (k v c.at)) → o ≡ over f (bind (read_intra_color m s p) k)
       intra_color_step a c o h t = group_step said (intra_color_of m) (read_intra_color m s p) f k a c.at o (rw (h, profile) at e) t
 
-      pub intra_color_stop : OneOf (1 ∷ []) (tag_of the_type r) → refused PastEnd ≡ over f (bind (read_intra_color m s p) k)
+      pub intra_color_stop : NotTwo Value r → refused PastEnd ≡ over f (bind (read_intra_color m s p) k)
       intra_color_stop h = group_stop said (intra_color_of m) (read_intra_color m s p) f k PastEnd (no_color_lem r (rw profile at e) h)

@@ -11,7 +11,7 @@ use base_bits::{Bits, Cursor};
 use base_enums::{BitDepth, ColorRange, ColorSpace};
 use part_sampling::SamplingRead;
 
-#[derive(Drop)]
+#[derive(Clone, Copy)]
 pub struct Color {
     pub bit_depth: BitDepth,
     pub color_space: ColorSpace,
@@ -20,7 +20,7 @@ pub struct Color {
     pub subsampling_y: bool,
 }
 
-#[derive(Drop)]
+#[derive(Clone, Copy)]
 pub enum ColorRead {
     Value(Color, Cursor),
     Short,

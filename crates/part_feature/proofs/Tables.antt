@@ -8,7 +8,7 @@ use native.Mathlib.Omega.{arith}
 use lib.Dec.{T, leb, le→leb}
 use lib.ListN.{length, get_or, get_or-eq_default}
 use lib.Pow.{pow_mono}
-use types.Run.{OneOf}
+use Rattle.base_shared.proofs.Other.{NotTwo}
 use denote.Enum.Declared.{tag_of}
 use Rattle.base_bits.specs.declared.Bits.{Bits}
 use Rattle.base_bits.specs.declared.Bits.TheVariants.{Value}
@@ -37,7 +37,7 @@ module _ (b : Bool) (s : List ℕ) (p j n : ℕ) (wide : n ≡ feature_bits j) (
     pub value_step : (v : ℕ) (c : Cursor) (y : Got B) → r ≡ Value v c → y ≡ over f (k v c.at) → y ≡ over f (bind (field_if b x (feature_bits j) s p) k)
     value_step v c y h m = rw (← wide) (step_if said b b refl x s p n f k r e few v c y h m)
 
-    pub value_stop : OneOf (1 ∷ 2 ∷ []) (tag_of the_type r) → refused PastEnd ≡ over f (bind (field_if b x (feature_bits j) s p) k)
+    pub value_stop : NotTwo Value r → refused PastEnd ≡ over f (bind (field_if b x (feature_bits j) s p) k)
     value_stop h = rw (← wide) (stop_if said b b refl x s p n f k r e few h PastEnd refl)
 
   pub value_small : (m : ℕ) (c : Cursor) → r ≡ Value m c → m < 256

@@ -42,13 +42,13 @@ fn sign_there(enabled: bool, j: usize) -> bool
 }
 
 // A feature of a segment; its value is 0 where it is disabled.
-#[derive(Drop)]
+#[derive(Clone, Copy)]
 pub struct Feature {
     pub enabled: bool,
     pub value: i16,
 }
 
-#[derive(Drop)]
+#[derive(Clone, Copy)]
 pub enum FeatureRead {
     Value(Feature, Cursor),
     Short,

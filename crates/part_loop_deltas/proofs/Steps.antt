@@ -1,11 +1,11 @@
 -- What a caller of each reader learns, as steps along its own reading.
 -- Assumes nothing.
 use Prim.Native.Nat.{ℕ}
-use mathlib.Core.Path.{◌≡◌}
+use mathlib.Core.Path.{◌≡◌, refl}
 use mathlib.Core.List.{List, [], ◌∷◌}
 use native.Mathlib.Omega.{arith}
 use lib.Dec.{eqb}
-use types.Run.{OneOf}
+use Rattle.base_shared.proofs.Other.{NotTwo}
 use denote.Enum.Declared.{tag_of}
 use Rattle.base_bits.specs.declared.Cursor.{Cursor}
 use Rattle.base_bits.specs.declared.Next.TheVariants.{At, Refused}
@@ -30,12 +30,12 @@ use Rattle.part_loop_deltas.specs.contracts.RefDeltasRead.{the_type as the-refs}
 use Rattle.part_loop_deltas.specs.contracts.ModeDeltasRead.{the_type as the-modes}
 
 -- an answer that holds no value is short
-no_refs_lem : {x : Got RefDeltas} (r : RefDeltasRead) → view_ref_deltas r ≡ x → OneOf (1 ∷ []) (tag_of the-refs r) → refused PastEnd ≡ x
-no_refs_lem (Refs a c) e h = absurd (omega (arith, h))
+no_refs_lem : {x : Got RefDeltas} (r : RefDeltasRead) → view_ref_deltas r ≡ x → NotTwo Refs r → refused PastEnd ≡ x
+no_refs_lem (Refs a c) e h = absurd (h a c refl)
 no_refs_lem NoRefs e h = e
 
-no_modes : {x : Got ModeDeltas} (r : ModeDeltasRead) → view_mode_deltas r ≡ x → OneOf (1 ∷ []) (tag_of the-modes r) → refused PastEnd ≡ x
-no_modes (Modes a c) e h = absurd (omega (arith, h))
+no_modes : {x : Got ModeDeltas} (r : ModeDeltasRead) → view_mode_deltas r ≡ x → NotTwo Modes r → refused PastEnd ≡ x
+no_modes (Modes a c) e h = absurd (h a c refl)
 no_modes NoModes e h = e
 
 -- settings beside their place, whichever reading m they come from
@@ -53,7 +53,7 @@ module _ {B D : Type 0} (s : List ℕ) (p : ℕ) (f : B → D) where
         → o ≡ over f (bind (group_if (eqb u 1) no_ref_deltas read_ref_deltas s p) k)
     refs_step x c o h t = group_taken f no_ref_deltas read_ref_deltas s p u 1 k o eu (group_step said ref_deltas_of (read_ref_deltas s p) f k x c.at o (rw h at e) t)
 
-    pub refs_stop : OneOf (1 ∷ []) (tag_of the-refs r) → refused PastEnd ≡ over f (bind (group_if (eqb u 1) no_ref_deltas read_ref_deltas s p) k)
+    pub refs_stop : NotTwo Refs r → refused PastEnd ≡ over f (bind (group_if (eqb u 1) no_ref_deltas read_ref_deltas s p) k)
     refs_stop h = group_taken f no_ref_deltas read_ref_deltas s p u 1 k (refused PastEnd) eu (group_stop said ref_deltas_of (read_ref_deltas s p) f k PastEnd (no_refs_lem r e h))
 
   module _ (u : ℕ) (eu : u ≡ 1) (r : ModeDeltasRead) (k : Times 2 DeltaValues → ℕ → Read B) (e : view_mode_deltas r ≡ over mode_deltas_of (read_mode_deltas s p)) where
@@ -61,5 +61,5 @@ module _ {B D : Type 0} (s : List ℕ) (p : ℕ) (f : B → D) where
         → o ≡ over f (bind (group_if (eqb u 1) no_mode_deltas read_mode_deltas s p) k)
     modes_step x c o h t = group_taken f no_mode_deltas read_mode_deltas s p u 1 k o eu (group_step said mode_deltas_of (read_mode_deltas s p) f k x c.at o (rw h at e) t)
 
-    pub modes_stop : OneOf (1 ∷ []) (tag_of the-modes r) → refused PastEnd ≡ over f (bind (group_if (eqb u 1) no_mode_deltas read_mode_deltas s p) k)
+    pub modes_stop : NotTwo Modes r → refused PastEnd ≡ over f (bind (group_if (eqb u 1) no_mode_deltas read_mode_deltas s p) k)
     modes_stop h = group_taken f no_mode_deltas read_mode_deltas s p u 1 k (refused PastEnd) eu (group_stop said mode_deltas_of (read_mode_deltas s p) f k PastEnd (no_modes r e h))

@@ -10,7 +10,7 @@ use base_loop_filter::LoopFilterParams;
 use part_coded::{Delta, DeltaRead};
 
 // What each reference frame adds to the filter's level.
-#[derive(Drop)]
+#[derive(Clone, Copy)]
 struct RefDeltas {
     intra: Delta,
     last: Delta,
@@ -18,7 +18,7 @@ struct RefDeltas {
     altref: Delta,
 }
 
-#[derive(Drop)]
+#[derive(Clone, Copy)]
 enum RefDeltasRead {
     Value(RefDeltas, Cursor),
     Short,
@@ -51,13 +51,13 @@ fn read_ref_deltas(s: &[u8], c: Cursor) -> RefDeltasRead
 }
 
 // What the zero motion vector adds, and what every other one does.
-#[derive(Drop)]
+#[derive(Clone, Copy)]
 struct ModeDeltas {
     zero: Delta,
     other: Delta,
 }
 
-#[derive(Drop)]
+#[derive(Clone, Copy)]
 enum ModeDeltasRead {
     Value(ModeDeltas, Cursor),
     Short,
@@ -122,7 +122,7 @@ fn with_deltas(old: LoopFilterParams, refs: RefDeltas, modes: ModeDeltas) -> Loo
 }
 
 // The new settings; a refusal leaves the old ones.
-#[derive(Drop)]
+#[derive(Clone, Copy)]
 pub struct LoopFilterRead {
     pub lf: LoopFilterParams,
     pub next: Next,

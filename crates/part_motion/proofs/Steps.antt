@@ -1,10 +1,10 @@
 -- What a caller of each reader learns, as steps along its own reading.
 -- Assumes nothing.
 use Prim.Native.Nat.{ℕ}
-use mathlib.Core.Path.{◌≡◌}
+use mathlib.Core.Path.{◌≡◌, refl}
 use mathlib.Core.List.{List, [], ◌∷◌}
 use native.Mathlib.Omega.{arith}
-use types.Run.{OneOf}
+use Rattle.base_shared.proofs.Other.{NotTwo}
 use denote.Enum.Declared.{tag_of}
 use Rattle.base_bits.specs.declared.Cursor.{Cursor}
 use Rattle.base_bits.specs.declared.Refusal.TheVariants.{PastEnd}
@@ -21,8 +21,8 @@ use Rattle.part_motion.specs.declared.MotionRead.TheVariants.{Value as Moves, Sh
 use Rattle.part_motion.specs.Motion.{MotionValues, read_motion, motion_of, view_motion}
 
 -- an answer that holds no value is short
-no_filter_lem : {x : Got InterpolationFilter} (r : FilterRead) → view_filter r ≡ x → OneOf (1 ∷ []) (tag_of the-filter r) → refused PastEnd ≡ x
-no_filter_lem (Filter a c) e h = absurd (omega (arith, h))
+no_filter_lem : {x : Got InterpolationFilter} (r : FilterRead) → view_filter r ≡ x → NotTwo Filter r → refused PastEnd ≡ x
+no_filter_lem (Filter a c) e h = absurd (h a c refl)
 no_filter_lem NoFilter e h = e
 
 module _ {B D : Type 0} (s : List ℕ) (p : ℕ) (f : B → D) where
@@ -30,7 +30,7 @@ module _ {B D : Type 0} (s : List ℕ) (p : ℕ) (f : B → D) where
     pub filter_step : (x : InterpolationFilter) (c : Cursor) (o : Got D) → r ≡ Filter x c → ((a : FilterValues) → x ≡ filter_of a → o ≡ over f (k a c.at)) → o ≡ over f (bind (read_filter s p) k)
     filter_step x c o h t = group_step said filter_of (read_filter s p) f k x c.at o (rw h at e) t
 
-    pub filter_stop : OneOf (1 ∷ []) (tag_of the-filter r) → refused PastEnd ≡ over f (bind (read_filter s p) k)
+    pub filter_stop : NotTwo Filter r → refused PastEnd ≡ over f (bind (read_filter s p) k)
     filter_stop h = group_stop said filter_of (read_filter s p) f k PastEnd (no_filter_lem r e h)
 
   module _ (r : MotionRead) (k : MotionValues → ℕ → Read B) (e : view_motion r ≡ over motion_of (read_motion s p)) where

@@ -8,7 +8,7 @@ ghost use Rattle.part_motion.specs.Motion.{read_motion, motion_of, view_motion};
 use base_bits::{Bits, Cursor};
 use base_enums::InterpolationFilter;
 
-#[derive(Drop)]
+#[derive(Clone, Copy)]
 pub enum FilterRead {
     Value(InterpolationFilter, Cursor),
     Short,
@@ -30,13 +30,13 @@ fn read_interpolation_filter(s: &[u8], c: Cursor) -> FilterRead
     }
 }
 
-#[derive(Drop)]
+#[derive(Clone, Copy)]
 pub struct Motion {
     pub allow_high_precision_mv: bool,
     pub interpolation_filter: InterpolationFilter,
 }
 
-#[derive(Drop)]
+#[derive(Clone, Copy)]
 pub enum MotionRead {
     Value(Motion, Cursor),
     Short,

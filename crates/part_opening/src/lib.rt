@@ -9,7 +9,7 @@ ghost use Rattle.grammar_tables.specs.Reading.{read_sync};
 
 use base_bits::{Bits, Cursor, Refusal};
 
-#[derive(Drop)]
+#[derive(Clone, Copy)]
 pub enum ProfileRead {
     Value(u32, Cursor),
     Refused(Refusal),
@@ -38,14 +38,14 @@ fn parse_profile(s: &[u8], c: Cursor) -> ProfileRead
     ProfileRead::Value(profile, c4)
 }
 
-#[derive(Drop)]
+#[derive(Clone, Copy)]
 pub struct Opening {
     pub profile: u32,
     pub show_existing_frame: bool,
     pub frame_to_show_map_idx: u8,
 }
 
-#[derive(Drop)]
+#[derive(Clone, Copy)]
 pub enum OpeningRead {
     Value(Opening, Cursor),
     Refused(Refusal),
@@ -76,7 +76,7 @@ pub fn parse_opening(s: &[u8], c: Cursor) -> OpeningRead
     }
 }
 
-#[derive(Drop)]
+#[derive(Clone, Copy)]
 pub enum SyncRead {
     Value(Cursor),
     Refused(Refusal),

@@ -1,11 +1,11 @@
 -- What a caller of each reader learns, as steps along its own reading.
 -- Assumes nothing.
 use Prim.Native.Nat.{ℕ}
-use mathlib.Core.Path.{◌≡◌}
+use mathlib.Core.Path.{◌≡◌, refl}
 use mathlib.Core.List.{List, [], ◌∷◌}
 use native.Mathlib.Omega.{arith}
 use lib.IntN.{ℤ}
-use types.Run.{OneOf}
+use Rattle.base_shared.proofs.Other.{NotTwo}
 use denote.Enum.Declared.{tag_of}
 use Rattle.base_bits.specs.declared.Cursor.{Cursor}
 use Rattle.base_bits.specs.declared.Refusal.TheVariants.{PastEnd}
@@ -29,12 +29,12 @@ alone f (read a q) o h = h
 alone f (stopped w) o h = h
 
 -- an answer that holds no value is short
-no_delta_q : {x : Got ℤ} (r : DeltaQRead) → view_delta_q r ≡ x → OneOf (1 ∷ []) (tag_of the-delta-q r) → refused PastEnd ≡ x
-no_delta_q (DeltaQ a c) e h = absurd (omega (arith, h))
+no_delta_q : {x : Got ℤ} (r : DeltaQRead) → view_delta_q r ≡ x → NotTwo DeltaQ r → refused PastEnd ≡ x
+no_delta_q (DeltaQ a c) e h = absurd (h a c refl)
 no_delta_q NoDeltaQ e h = e
 
-no_quantizer_lem : {x : Got QuantizationParams} (r : QuantizerRead) → view_quantizer r ≡ x → OneOf (1 ∷ []) (tag_of the-quantizer r) → refused PastEnd ≡ x
-no_quantizer_lem (Quantizer a c) e h = absurd (omega (arith, h))
+no_quantizer_lem : {x : Got QuantizationParams} (r : QuantizerRead) → view_quantizer r ≡ x → NotTwo Quantizer r → refused PastEnd ≡ x
+no_quantizer_lem (Quantizer a c) e h = absurd (h a c refl)
 no_quantizer_lem NoQuantizer e h = e
 
 module _ {B D : Type 0} (s : List ℕ) (p : ℕ) (f : B → D) where
@@ -42,12 +42,12 @@ module _ {B D : Type 0} (s : List ℕ) (p : ℕ) (f : B → D) where
     pub delta_q_step : (x : ℤ) (c : Cursor) (o : Got D) → r ≡ DeltaQ x c → ((a : DeltaValues) → x ≡ delta_value a → o ≡ over f (k a c.at)) → o ≡ over f (bind (read_delta_q i s p) k)
     delta_q_step x c o h t = group_step said delta_value (read_delta_q i s p) f k x c.at o (rw h at (e i)) t
 
-    pub delta_q_stop : OneOf (1 ∷ []) (tag_of the-delta-q r) → refused PastEnd ≡ over f (bind (read_delta_q i s p) k)
+    pub delta_q_stop : NotTwo DeltaQ r → refused PastEnd ≡ over f (bind (read_delta_q i s p) k)
     delta_q_stop h = group_stop said delta_value (read_delta_q i s p) f k PastEnd (no_delta_q r (e i) h)
 
   module _ (r : QuantizerRead) (k : QuantizerValues → ℕ → Read B) (e : view_quantizer r ≡ over quantizer_of (read_quantizer s p)) where
     pub quantizer_step : (x : QuantizationParams) (c : Cursor) (o : Got D) → r ≡ Quantizer x c → ((a : QuantizerValues) → x ≡ quantizer_of a → o ≡ over f (k a c.at)) → o ≡ over f (bind (read_quantizer s p) k)
     quantizer_step x c o h t = group_step said quantizer_of (read_quantizer s p) f k x c.at o (rw h at e) t
 
-    pub quantizer_stop : OneOf (1 ∷ []) (tag_of the-quantizer r) → refused PastEnd ≡ over f (bind (read_quantizer s p) k)
+    pub quantizer_stop : NotTwo Quantizer r → refused PastEnd ≡ over f (bind (read_quantizer s p) k)
     quantizer_stop h = group_stop said quantizer_of (read_quantizer s p) f k PastEnd (no_quantizer_lem r e h)

@@ -10,7 +10,7 @@ use base_bits::{Bits, Cursor};
 use base_quantization::QuantizationParams;
 use part_coded::DeltaRead;
 
-#[derive(Drop)]
+#[derive(Clone, Copy)]
 enum DeltaQRead {
     Value(i8, Cursor),
     Short,
@@ -26,7 +26,7 @@ fn read_delta_q(s: &[u8], c: Cursor) -> DeltaQRead
     DeltaQRead::Value(d.value, c1)
 }
 
-#[derive(Drop)]
+#[derive(Clone, Copy)]
 pub enum QuantizerRead {
     Value(QuantizationParams, Cursor),
     Short,

@@ -9,13 +9,13 @@ ghost use Rattle.part_refs.specs.Sources.{read_sources, sources_of, view_sources
 use base_bits::{Bits, Cursor};
 
 // A reference: its slot, and its sign bias.
-#[derive(Drop)]
+#[derive(Clone, Copy)]
 pub struct Ref {
     pub idx: u8,
     pub sign_bias: u8,
 }
 
-#[derive(Drop)]
+#[derive(Clone, Copy)]
 pub enum RefRead {
     Value(Ref, Cursor),
     Short,
@@ -40,14 +40,14 @@ fn parse_ref(s: &[u8], c: Cursor) -> RefRead
     )
 }
 
-#[derive(Drop)]
+#[derive(Clone, Copy)]
 pub struct Refs {
     pub last: Ref,
     pub golden: Ref,
     pub altref: Ref,
 }
 
-#[derive(Drop)]
+#[derive(Clone, Copy)]
 pub enum RefsRead {
     Value(Refs, Cursor),
     Short,
@@ -76,13 +76,13 @@ fn parse_refs(s: &[u8], c: Cursor) -> RefsRead
 }
 
 // The slots that a frame writes, one to a bit, and those that it reads.
-#[derive(Drop)]
+#[derive(Clone, Copy)]
 pub struct Sources {
     pub refresh_frame_flags: u8,
     pub refs: Refs,
 }
 
-#[derive(Drop)]
+#[derive(Clone, Copy)]
 pub enum SourcesRead {
     Value(Sources, Cursor),
     Short,

@@ -1,10 +1,10 @@
 -- What a caller of `parse_sampling` learns, as steps along its own reading.
 -- Assumes nothing.
 use Prim.Native.Nat.{ℕ}
-use mathlib.Core.Path.{◌≡◌}
+use mathlib.Core.Path.{◌≡◌, refl}
 use mathlib.Core.List.{List, [], ◌∷◌}
 use native.Mathlib.Omega.{arith}
-use types.Run.{OneOf}
+use Rattle.base_shared.proofs.Other.{NotTwo}
 use denote.Enum.Declared.{tag_of}
 use Rattle.base_bits.specs.declared.Cursor.{Cursor}
 use Rattle.base_bits.specs.declared.Refusal.TheVariants.{PastEnd}
@@ -16,8 +16,8 @@ use Rattle.part_sampling.specs.declared.SamplingRead.TheVariants.{Value as Sampl
 use Rattle.part_sampling.specs.Sampling.{sampling_of, view_sampling, SamplingValues, read_sampling}
 use Rattle.part_sampling.specs.contracts.SamplingRead.{the_type as the-sampling}
 
-no_sampling : {x : Got Sampling} (r : SamplingRead) → view_sampling r ≡ x → OneOf (1 ∷ []) (tag_of the-sampling r) → refused PastEnd ≡ x
-no_sampling (Sampled a c) e h = absurd (omega (arith, h))
+no_sampling : {x : Got Sampling} (r : SamplingRead) → view_sampling r ≡ x → NotTwo Sampled r → refused PastEnd ≡ x
+no_sampling (Sampled a c) e h = absurd (h a c refl)
 no_sampling Unsampled e h = e
 
 -- n and i are the profile and colour space of the call, m and j those of the caller's reading
@@ -26,5 +26,5 @@ module _ {B D : Type 0} (s : List ℕ) (p : ℕ) (f : B → D) (n m : ℕ) (prof
     pub sampling_step : (a : Sampling) (c : Cursor) (o : Got D) → r ≡ Sampled a c → ((v : SamplingValues) → a ≡ sampling_of m j v → o ≡ over f (k v c.at)) → o ≡ over f (bind (read_sampling m j s p) k)
     sampling_step a c o h t = group_step said (sampling_of m j) (read_sampling m j s p) f k a c.at o (rw (h, profile, space) at e) t
 
-    pub sampling_stop : OneOf (1 ∷ []) (tag_of the-sampling r) → refused PastEnd ≡ over f (bind (read_sampling m j s p) k)
+    pub sampling_stop : NotTwo Sampled r → refused PastEnd ≡ over f (bind (read_sampling m j s p) k)
     sampling_stop h = group_stop said (sampling_of m j) (read_sampling m j s p) f k PastEnd (no_sampling r (rw (profile, space) at e) h)

@@ -11,14 +11,14 @@ use base_enums::ColorRange;
 // The colour space RGB, which codes neither range nor subsampling.
 const CS_RGB: u32 = 7;
 
-#[derive(Drop)]
+#[derive(Clone, Copy)]
 pub struct Sampling {
     pub color_range: ColorRange,
     pub subsampling_x: bool,
     pub subsampling_y: bool,
 }
 
-#[derive(Drop)]
+#[derive(Clone, Copy)]
 pub enum SamplingRead {
     Value(Sampling, Cursor),
     Short,

@@ -12,13 +12,13 @@ use part_feature::FeatureRead;
 use part_segment_map::SegmentationRead;
 
 // The features of all segments, segment after segment in each row.
-#[derive(Drop)]
+#[derive(Clone, Copy)]
 struct Features {
     enabled: [bool; SegmentationParams::FEATURES],
     values: [i16; SegmentationParams::FEATURES],
 }
 
-#[derive(Drop)]
+#[derive(Clone, Copy)]
 struct FeaturesRead {
     features: Features,
     next: Next,

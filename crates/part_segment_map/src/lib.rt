@@ -9,7 +9,7 @@ use base_segmentation::SegmentationParams;
 use part_coded::ProbRead;
 
 // As many probabilities as were asked for stand at the front; the other places are 255.
-#[derive(Drop)]
+#[derive(Clone, Copy)]
 struct ProbsRead {
     probs: [u8; SegmentationParams::SEG_TREE_PROBS],
     next: Next,
@@ -53,7 +53,7 @@ fn read_probs_if(s: &[u8], c: Cursor, there: bool, n: usize) -> ProbsRead
 }
 
 // No enum can hold an array, so the settings stand beside the place; a refusal hands the old ones back.
-#[derive(Drop)]
+#[derive(Clone, Copy)]
 pub struct SegmentationRead {
     pub seg: SegmentationParams,
     pub next: Next,

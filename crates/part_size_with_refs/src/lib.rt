@@ -13,7 +13,7 @@ use part_sizes::SizesRead;
 const REFS_PER_FRAME: usize = 3;
 
 // What the found_ref flags say: which reference gives the size, or none.
-#[derive(Drop)]
+#[derive(Clone, Copy)]
 enum Found {
     At(usize, Cursor),
     Nothing(Cursor),

@@ -9,7 +9,7 @@ ghost use Rattle.part_sizes.specs.Sizes.{read_sizes, with_render, sizes_of, view
 use base_bits::{Bits, Cursor};
 use base_size::FrameSize;
 
-#[derive(Drop)]
+#[derive(Clone, Copy)]
 pub enum SizeRead {
     Value(FrameSize, Cursor),
     Short,
@@ -45,19 +45,19 @@ fn size_or(s: &[u8], c: Cursor, there: bool, other: FrameSize) -> SizeRead
     }
 }
 
-#[derive(Drop)]
+#[derive(Clone, Copy)]
 pub struct Render {
     pub different: bool,
     pub size: FrameSize,
 }
 
-#[derive(Drop)]
+#[derive(Clone, Copy)]
 pub struct Sizes {
     pub frame: FrameSize,
     pub render: Render,
 }
 
-#[derive(Drop)]
+#[derive(Clone, Copy)]
 pub enum SizesRead {
     Value(Sizes, Cursor),
     Short,

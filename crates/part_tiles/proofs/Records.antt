@@ -1,14 +1,14 @@
 -- The records that the code makes are those of the values.
 -- Assumes nothing.
 use Prim.Native.Nat.{ℕ, ◌+◌, ◌-◌, ◌≤◌, ◌<◌, ◌^◌}
-use mathlib.Core.Path.{◌≡◌, ap, ◌∙◌}
+use mathlib.Core.Path.{◌≡◌, ap, ◌∙◌, refl}
 use mathlib.Core.Bool.{Bool}
 use mathlib.Core.List.{List, [], ◌∷◌}
 use native.Mathlib.Omega.{arith}
 use lib.Dec.{T, leb, leb→le}
 use mir.Val.{Fits, bits}
 use mir.Syntax.{Width, w8}
-use types.Run.{OneOf}
+use Rattle.base_shared.proofs.Other.{NotTwo}
 use denote.Enum.Declared.{tag_of}
 use Rattle.base_bits.specs.declared.Bits.{Bits}
 use Rattle.base_bits.specs.declared.Bits.TheVariants.{Value}
@@ -39,8 +39,8 @@ uncounted : (f : ℕ → ℕ) (m : Read ℕ) (e : Refusal) → refused e ≡ ove
 uncounted f (read a q) e h = let z : ◌≡◌ {A = ℕ} 0 1 = cc in absurd (omega arith)
 uncounted f (stopped w) e h = h
 
-pub no_count : {x : Got ℕ} (r : CountRead) → view_count r ≡ x → OneOf (1 ∷ []) (tag_of the_type r) → refused PastEnd ≡ x
-no_count (Count k c) e h = absurd (omega (arith, h))
+pub no_count : {x : Got ℕ} (r : CountRead) → view_count r ≡ x → NotTwo Count r → refused PastEnd ≡ x
+no_count (Count k c) e h = absurd (h k c refl)
 no_count NoCount e h = e
 
 -- the columns, from the limits lo and hi of w superblocks
@@ -67,7 +67,7 @@ module _ (width w lo hi : ℕ) (ew : w ≡ superblocks width) (el : lo ≡ least
       pub cols_read : got (lo + k) c.at ≡ over (cols_of width) (read_cols width s p)
       cols_read = rw (run, lo_is)
 
-    pub cols_short : OneOf (1 ∷ []) (tag_of the_type r) → refused PastEnd ≡ over (cols_of width) (read_cols width s p)
+    pub cols_short : NotTwo Count r → refused PastEnd ≡ over (cols_of width) (read_cols width s p)
     cols_short o = rw (← lo_is, ← hi_is) (uncounted (cols_of width) (read_run "increment_tile_cols_log2" 1 0 (hi - lo) s p) PastEnd (no_count r e o))
 
 -- the rows: the sum of two bits

@@ -45,20 +45,20 @@ fn calc_max_log2_tile_cols(sb64_cols: u32) -> u8
 }
 
 // The base 2 logarithms of the numbers of tile columns and rows.
-#[derive(Drop)]
+#[derive(Clone, Copy)]
 pub struct Tiles {
     pub cols_log2: u8,
     pub rows_log2: u8,
 }
 
-#[derive(Drop)]
+#[derive(Clone, Copy)]
 pub enum TilesRead {
     Value(Tiles, Cursor),
     Short,
 }
 
 // What a part of it answers: the increments, or the columns.
-#[derive(Drop)]
+#[derive(Clone, Copy)]
 enum CountRead {
     Value(u8, Cursor),
     Short,

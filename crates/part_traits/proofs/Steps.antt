@@ -1,11 +1,11 @@
 -- What a caller of each of these learns, as steps along its own reading.
 -- Assumes nothing.
 use Prim.Native.Nat.{ℕ}
-use mathlib.Core.Path.{◌≡◌}
+use mathlib.Core.Path.{◌≡◌, refl}
 use mathlib.Core.Bool.{Bool}
 use mathlib.Core.List.{List, [], ◌∷◌}
 use native.Mathlib.Omega.{arith}
-use types.Run.{OneOf}
+use Rattle.base_shared.proofs.Other.{NotTwo}
 use denote.Enum.Declared.{tag_of}
 use Rattle.base_bits.specs.declared.Cursor.{Cursor}
 use Rattle.base_bits.specs.declared.Refusal.TheVariants.{PastEnd}
@@ -22,12 +22,12 @@ use Rattle.part_traits.specs.Context.{ContextValues, read_context, context_of, v
 use Rattle.part_traits.specs.contracts.TraitsRead.{the_type as traits-type}
 use Rattle.part_traits.specs.contracts.ContextRead.{the_type as context-type}
 
-no_traits : {x : Got Traits} (r : TraitsRead) → view_traits r ≡ x → OneOf (1 ∷ []) (tag_of traits-type r) → refused PastEnd ≡ x
-no_traits (Has a c) e h = absurd (omega (arith, h))
+no_traits : {x : Got Traits} (r : TraitsRead) → view_traits r ≡ x → NotTwo Has r → refused PastEnd ≡ x
+no_traits (Has a c) e h = absurd (h a c refl)
 no_traits HasNot e h = e
 
-no_context : {x : Got Context} (r : ContextRead) → view_context r ≡ x → OneOf (1 ∷ []) (tag_of context-type r) → refused PastEnd ≡ x
-no_context (With a c) e h = absurd (omega (arith, h))
+no_context : {x : Got Context} (r : ContextRead) → view_context r ≡ x → NotTwo With r → refused PastEnd ≡ x
+no_context (With a c) e h = absurd (h a c refl)
 no_context Without e h = e
 
 module _ {B D : Type 0} (s : List ℕ) (p : ℕ) (f : B → D) where
@@ -35,7 +35,7 @@ module _ {B D : Type 0} (s : List ℕ) (p : ℕ) (f : B → D) where
     pub traits_step : (v : Traits) (c : Cursor) (o : Got D) → r ≡ Has v c → ((a : TraitsValues) → v ≡ traits_of a → o ≡ over f (k a c.at)) → o ≡ over f (bind (read_traits s p) k)
     traits_step v c o h t = group_step said traits_of (read_traits s p) f k v c.at o (rw h at e) t
 
-    pub traits_stop : OneOf (1 ∷ []) (tag_of traits-type r) → refused PastEnd ≡ over f (bind (read_traits s p) k)
+    pub traits_stop : NotTwo Has r → refused PastEnd ≡ over f (bind (read_traits s p) k)
     traits_stop h = group_stop said traits_of (read_traits s p) f k PastEnd (no_traits r e h)
 
   -- the code's flag and that of the values may be written differently
@@ -46,5 +46,5 @@ module _ {B D : Type 0} (s : List ℕ) (p : ℕ) (f : B → D) where
     pub context_step : (v : Context) (c : Cursor) (o : Got D) → r ≡ With v c → ((a : ContextValues) → v ≡ context_of b' a → o ≡ over f (k a c.at)) → o ≡ over f (bind (read_context b' s p) k)
     context_step v c o h t = group_step said (context_of b') (read_context b' s p) f k v c.at o (rw h at said_context) t
 
-    pub context_stop : OneOf (1 ∷ []) (tag_of context-type r) → refused PastEnd ≡ over f (bind (read_context b' s p) k)
+    pub context_stop : NotTwo With r → refused PastEnd ≡ over f (bind (read_context b' s p) k)
     context_stop h = group_stop said (context_of b') (read_context b' s p) f k PastEnd (no_context r said_context h)

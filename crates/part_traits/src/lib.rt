@@ -9,14 +9,14 @@ ghost use Rattle.part_traits.specs.Context.{read_context, parallel_of, context_o
 use base_bits::{Bits, Cursor};
 
 // A key frame has frame type 0.
-#[derive(Drop)]
+#[derive(Clone, Copy)]
 pub struct Traits {
     pub key: bool,
     pub show_frame: bool,
     pub error_resilient_mode: bool,
 }
 
-#[derive(Drop)]
+#[derive(Clone, Copy)]
 pub enum TraitsRead {
     Value(Traits, Cursor),
     Short,
@@ -44,13 +44,13 @@ pub fn parse_traits(s: &[u8], c: Cursor) -> TraitsRead
     )
 }
 
-#[derive(Drop)]
+#[derive(Clone, Copy)]
 pub struct Kind {
     pub intra_only: bool,
     pub reset_frame_context: u8,
 }
 
-#[derive(Drop)]
+#[derive(Clone, Copy)]
 pub enum KindRead {
     Value(Kind, Cursor),
     Short,
@@ -75,14 +75,14 @@ pub fn parse_kind(s: &[u8], c: Cursor, show_frame: bool, error_resilient_mode: b
     )
 }
 
-#[derive(Drop)]
+#[derive(Clone, Copy)]
 pub struct Context {
     pub refresh_frame_context: bool,
     pub frame_parallel_decoding_mode: bool,
     pub frame_context_idx: u8,
 }
 
-#[derive(Drop)]
+#[derive(Clone, Copy)]
 pub enum ContextRead {
     Value(Context, Cursor),
     Short,

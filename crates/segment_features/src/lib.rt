@@ -12,7 +12,7 @@ pub type Enabled = [bool; SegmentationParams::FEATURES];
 
 pub type Values = [i16; SegmentationParams::FEATURES];
 
-#[derive(Drop)]
+#[derive(Clone, Copy)]
 pub struct Features {
     pub absolute: bool,
     pub quantizer_active: bool,

@@ -12,7 +12,7 @@ use segment_tables::Table;
 const MAX_Q_INDEX: u8 = 255;
 
 // What a segment's blocks are scaled by.
-#[derive(Drop)]
+#[derive(Clone, Copy)]
 pub struct Scales {
     pub luma_ac: i16,
     pub luma_dc: i16,

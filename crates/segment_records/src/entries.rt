@@ -10,7 +10,7 @@ use segment_tables::Table;
 
 const MAX_Q_INDEX: u8 = 255;
 
-#[derive(Drop)]
+#[derive(Clone, Copy)]
 pub struct Entries {
     pub scales: Scales,
     pub reference_frame_enabled: bool,

@@ -19,7 +19,7 @@ use segment_quant::Scales;
 use segment_tables::Table;
 
 // The level of reference r in mode m stands at r * 2 + m of lvl_lookup.
-#[derive(Drop)]
+#[derive(Clone, Copy)]
 pub struct Segmentation {
     pub lvl_lookup: [u8; 8],
     pub luma_ac_quant_scale: i16,

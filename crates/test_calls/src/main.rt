@@ -190,7 +190,7 @@ fn tell(out: &mut [u8], at: usize, s: &[u8]) -> usize {
 // The input.
 
 // The next record: so many bytes, at the buffer's start. One of no bytes ends the series.
-#[derive(Drop)]
+#[derive(Clone, Copy)]
 enum Asked {
     Bytes(usize),
     End,

@@ -142,7 +142,7 @@ fn segments(h: u32, s: [Segmentation; 8]) -> u32 {
 // The frames of a chunk.
 
 // The digest of some frames, and the segment records after them.
-#[derive(Drop)]
+#[derive(Clone, Copy)]
 struct Fold {
     digest: u32,
     segments: [Segmentation; 8],
@@ -236,7 +236,7 @@ fn put_line(out: &mut [u8], at: usize, told: Told) -> usize {
 // The answers.
 
 // What is remembered from chunk to chunk.
-#[derive(Drop)]
+#[derive(Clone, Copy)]
 struct Series {
     state: ReaderState,
     segments: [Segmentation; 8],
@@ -251,7 +251,7 @@ fn fresh() -> Series {
 
 // What is done with a chunk. A benchmark tells the cost of a parse, or of a segment step, from two counts; it keeps
 // nothing.
-#[derive(Drop)]
+#[derive(Clone, Copy)]
 enum Work {
     Answer,
     Parses(u64),
@@ -290,7 +290,7 @@ fn last_records(
 }
 
 // What the line of a chunk says, and the state and the records after it.
-#[derive(Drop)]
+#[derive(Clone, Copy)]
 struct Told {
     answer: Answer,
     frames: u32,
@@ -452,7 +452,7 @@ fn state_of(s: &[u8]) -> ReaderState {
 
 // The records of the input.
 
-#[derive(Drop)]
+#[derive(Clone, Copy)]
 enum Record {
     Fresh,
     // A chunk: its place from the record's start, its size, and what is done with it.
@@ -517,7 +517,7 @@ fn next_record(s: &[u8]) -> Record {
 
 // What is read and not used yet lies in the input buffer from `start` to `end`, and the lines that are not written
 // yet at the front of the output buffer, up to `at`.
-#[derive(Drop)]
+#[derive(Clone, Copy)]
 struct Run {
     start: usize,
     end: usize,
@@ -645,7 +645,7 @@ fn unused(input: &[u8], run: Run) -> &[u8] {
 }
 
 // After a turn.
-#[derive(Drop)]
+#[derive(Clone, Copy)]
 struct After {
     run: Run,
     series: Series,

@@ -209,7 +209,7 @@ fn put_all_scales(out: &mut [u8], at: usize, h: Header) -> usize {
 }
 
 // After a case: the records, the text that isn't written yet, and whether another case may follow.
-#[derive(Drop)]
+#[derive(Clone, Copy)]
 struct After {
     segments: [Segmentation; 8],
     at: usize,

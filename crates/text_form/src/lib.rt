@@ -6,7 +6,7 @@ ghost use Rattle.base_bytes.specs.Put.{Written};
 ghost use Rattle.text_form.specs.Form.{flag_text, mark_piece, word_piece, piece, words_after, mode_after, is_mark, takes_value, value_after, formed};
 
 // Where in a form it goes on.
-#[derive(Drop)]
+#[derive(Clone, Copy)]
 enum Mode {
     // In its text.
     Text,

@@ -10,7 +10,7 @@ ghost use Rattle.text_frame_line.specs.Frame.{frame_kind, kind_word, frame_line}
 use base_enums::FrameType;
 use base_types::Header;
 
-#[derive(Drop)]
+#[derive(Clone, Copy)]
 pub enum Kind {
     Key,
     Intra,

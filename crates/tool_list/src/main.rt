@@ -11,7 +11,7 @@ use base_stream::{Ending, Filled, Room};
 use listing_lister::{Fed, Lister, ROOM, Wants};
 
 // The buffers' ends, and how the run goes.
-#[derive(Drop)]
+#[derive(Clone, Copy)]
 struct Run {
     // The input that is read and not used yet.
     start: usize,

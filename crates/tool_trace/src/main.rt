@@ -46,7 +46,7 @@ const FILE_REFUSED: usize = 10;
 const LAST: usize = 11;
 
 // A place in the output buffer, up to which it is printed, and one in the forms, up to which they are.
-#[derive(Drop)]
+#[derive(Clone, Copy)]
 struct Pen {
     at: usize,
     form: usize,
@@ -374,7 +374,7 @@ fn kind(h: Header) -> u64 {
 }
 
 // A frame's numbers, and its place and size in its chunk.
-#[derive(Drop)]
+#[derive(Clone, Copy)]
 struct Place {
     chunk: u64,
     frame: usize,
@@ -468,7 +468,7 @@ fn put_last(form: &[u8], out: &mut [u8], at: usize, chunks: u64, refused: u64) -
 }
 
 // The text that isn't written yet, up to `at` in the output buffer. Once a write failed nothing more is written.
-#[derive(Drop)]
+#[derive(Clone, Copy)]
 struct Page {
     at: usize,
     broken: bool,
@@ -502,7 +502,7 @@ fn flushed(out: &[u8], page: Page) -> Page {
 
 // What is remembered from chunk to chunk of a series: the number of the next one, the reader's state and the segment
 // records.
-#[derive(Drop)]
+#[derive(Clone, Copy)]
 struct Series {
     chunk: u64,
     page: Page,
@@ -524,7 +524,7 @@ fn one_more(n: u64) -> u64 {
 }
 
 // Some frames listed: the text, and the segment records after them.
-#[derive(Drop)]
+#[derive(Clone, Copy)]
 struct Listed {
     page: Page,
     segments: [Segmentation; 8],
@@ -682,7 +682,7 @@ fn answer_frame(
 }
 
 // A record of a series: a chunk is so many bytes at the buffer's start.
-#[derive(Drop)]
+#[derive(Clone, Copy)]
 enum Record {
     Fresh,
     Chunk(usize),
@@ -819,7 +819,7 @@ fn trace_series(form: &[u8], buf: &mut [u8], out: &mut [u8]) -> Ending {
 
 // A file: what is read and not used yet lies in the input buffer from `start` to `end`. Once a read or a write fails,
 // nothing more is read.
-#[derive(Drop)]
+#[derive(Clone, Copy)]
 struct Run {
     start: usize,
     end: usize,
@@ -1029,7 +1029,7 @@ fn trace(form: &[u8], file: bool) {
 }
 
 // What the arguments ask for.
-#[derive(Drop)]
+#[derive(Clone, Copy)]
 enum Mode {
     File,
     Series,

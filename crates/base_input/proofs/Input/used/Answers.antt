@@ -1,0 +1,5 @@
+use borrow.Author.Rules.{rules}
+use Rattle.base_input.proofs.Input.used.Goals as goal
+
+pub returns : goal.returns
+returns c = rw c.forward.ensures

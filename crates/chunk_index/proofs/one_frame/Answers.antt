@@ -1,0 +1,6 @@
+use borrow.Author.Rules.{rules}
+use Rattle.chunk_index.proofs.Walk.{one_placed}
+use Rattle.chunk_index.proofs.one_frame.Goals as goal
+
+pub returns : goal.returns
+returns c = one_placed c.args.s.now

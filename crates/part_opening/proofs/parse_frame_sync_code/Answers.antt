@@ -1,0 +1,12 @@
+use Rattle.base_syntax.proofs.Steps.{reading}
+use Rattle.grammar_tables.specs.Reading.{read_sync}
+use borrow.Author.Rules.{rules}
+use Rattle.part_opening.proofs.parse_frame_sync_code.Goals as goal
+
+pub returns-then-code-ne4817730 : goal.returns-then-code-ne4817730
+unfolding read_sync
+returns-then-code-ne4817730 c = search reading
+
+pub returns : goal.returns
+unfolding read_sync
+returns c = search reading

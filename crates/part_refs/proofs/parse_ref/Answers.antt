@@ -1,0 +1,16 @@
+use Rattle.base_syntax.proofs.Steps.{reading}
+use Rattle.part_refs.specs.Refs.{ref_of}
+use Rattle.grammar_tables.specs.Reading.{read_ref}
+use Rattle.part_refs.proofs.Records.{byte_fits}
+use borrow.Author.Rules.{rules}
+use Rattle.part_refs.proofs.parse_ref.Goals as goal
+
+pub overflow_cast-result : goal.overflow_cast-result
+overflow_cast-result c = search byte_fits
+
+pub overflow_cast-result-2 : goal.overflow_cast-result-2
+overflow_cast-result-2 c = search byte_fits
+
+pub returns : goal.returns
+unfolding read_ref ref_of
+returns c = λ i. search reading

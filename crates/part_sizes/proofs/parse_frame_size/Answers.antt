@@ -1,0 +1,15 @@
+use Rattle.base_syntax.proofs.Steps.{reading, sum_fits}
+use Rattle.grammar_tables.specs.Reading.{read_size}
+use Rattle.grammar_tables.specs.Header.{size_of}
+use borrow.Author.Rules.{rules}
+use Rattle.part_sizes.proofs.parse_frame_size.Goals as goal
+
+pub overflow_add-result : goal.overflow_add-result
+overflow_add-result c = search sum_fits
+
+pub overflow_add-result-2 : goal.overflow_add-result-2
+overflow_add-result-2 c = search sum_fits
+
+pub returns : goal.returns
+unfolding read_size size_of
+returns c = λ x y. search reading

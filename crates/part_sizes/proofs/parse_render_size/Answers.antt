@@ -1,0 +1,14 @@
+use Rattle.base_syntax.proofs.Steps.{reading}
+use Rattle.grammar_tables.specs.Reading.{read_render}
+use Rattle.part_sizes.proofs.Steps.{size_or_step, size_or_stop}
+use Rattle.part_sizes.proofs.Records.{render_read}
+use borrow.Author.Rules.{rules}
+use Rattle.part_sizes.proofs.parse_render_size.Goals as goal
+
+pub returns-in_default-size_or : goal.returns-in_default-size_or
+unfolding read_render
+returns-in_default-size_or c = search (reading, size_or_stop)
+
+pub returns : goal.returns
+unfolding read_render
+returns c = search (reading, size_or_step, render_read)
