@@ -3,6 +3,10 @@ use Rattle.grammar_tables.specs.Reading.{read_sync}
 use borrow.Author.Rules.{rules}
 use Rattle.part_opening.proofs.parse_frame_sync_code.Goals as goal
 
+pub returns-in_default : goal.returns-in_default
+unfolding read_sync
+returns-in_default c = search reading
+
 pub returns-then-code-ne4817730 : goal.returns-then-code-ne4817730
 unfolding read_sync
 returns-then-code-ne4817730 c = search reading

@@ -5,6 +5,14 @@ use Rattle.part_opening.proofs.Steps.{profile_step, profile_stop}
 use borrow.Author.Rules.{rules}
 use Rattle.part_opening.proofs.parse_opening.Goals as goal
 
+pub returns-in_default : goal.returns-in_default
+unfolding read_opening
+returns-in_default c = search (profile_step, reading)
+
+pub returns-in_default-read_bits_if : goal.returns-in_default-read_bits_if
+unfolding read_opening
+returns-in_default-read_bits_if c = search (profile_step, reading)
+
 pub overflow_cast-result : goal.overflow_cast-result
 overflow_cast-result c = search slot_fits
 

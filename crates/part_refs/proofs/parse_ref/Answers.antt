@@ -5,6 +5,14 @@ use Rattle.part_refs.proofs.Records.{byte_fits}
 use borrow.Author.Rules.{rules}
 use Rattle.part_refs.proofs.parse_ref.Goals as goal
 
+pub returns-in_default : goal.returns-in_default
+unfolding read_ref
+returns-in_default c = λ i. search reading
+
+pub returns-in_default-read_bits : goal.returns-in_default-read_bits
+unfolding read_ref
+returns-in_default-read_bits c = λ i. search reading
+
 pub overflow_cast-result : goal.overflow_cast-result
 overflow_cast-result c = search byte_fits
 

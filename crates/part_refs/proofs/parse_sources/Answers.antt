@@ -5,6 +5,10 @@ use Rattle.part_refs.proofs.Records.{byte_fits, sources_read}
 use borrow.Author.Rules.{rules}
 use Rattle.part_refs.proofs.parse_sources.Goals as goal
 
+pub returns-in_default : goal.returns-in_default
+unfolding read_sources
+returns-in_default c = search reading
+
 pub returns-in_default-parse_refs : goal.returns-in_default-parse_refs
 unfolding read_sources
 returns-in_default-parse_refs c = search (reading, refs_stop)

@@ -4,6 +4,14 @@ use Rattle.grammar_tables.specs.Header.{size_of}
 use borrow.Author.Rules.{rules}
 use Rattle.part_sizes.proofs.parse_frame_size.Goals as goal
 
+pub returns-in_default : goal.returns-in_default
+unfolding read_size
+returns-in_default c = λ x y. search reading
+
+pub returns-in_default-read_bits : goal.returns-in_default-read_bits
+unfolding read_size
+returns-in_default-read_bits c = λ x y. search reading
+
 pub overflow_add-result : goal.overflow_add-result
 overflow_add-result c = search sum_fits
 

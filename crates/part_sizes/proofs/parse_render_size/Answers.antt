@@ -5,6 +5,10 @@ use Rattle.part_sizes.proofs.Records.{render_read}
 use borrow.Author.Rules.{rules}
 use Rattle.part_sizes.proofs.parse_render_size.Goals as goal
 
+pub returns-in_default : goal.returns-in_default
+unfolding read_render
+returns-in_default c = search reading
+
 pub returns-in_default-size_or : goal.returns-in_default-size_or
 unfolding read_render
 returns-in_default-size_or c = search (reading, size_or_stop)
