@@ -1,0 +1,21 @@
+use Rattle.base_syntax.proofs.Steps.{reading}
+use Rattle.part_motion.specs.Filter.{read_filter}
+use Rattle.part_motion.proofs.Records.{switchable, literal}
+use borrow.Author.Rules.{rules}
+use Rattle.part_motion.proofs.read_interpolation_filter.Goals as goal
+
+pub returns-in_default : goal.returns-in_default
+unfolding read_filter
+returns-in_default c = search reading
+
+pub returns-in_default-read_bits_if : goal.returns-in_default-read_bits_if
+unfolding read_filter
+returns-in_default-read_bits_if c = search reading
+
+pub returns-then-switchable-eq1 : goal.returns-then-switchable-eq1
+unfolding read_filter
+returns-then-switchable-eq1 c = search (reading, switchable)
+
+pub returns-else-switchable-eq1 : goal.returns-else-switchable-eq1
+unfolding read_filter
+returns-else-switchable-eq1 c = search (reading, literal)
