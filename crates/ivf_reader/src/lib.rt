@@ -1,7 +1,5 @@
-// A reader of a recording's records: it keeps the lent file and its place together. The checker covers no function
-// over a struct that holds a reference,
-// so each is proved by hand and thin; the work is done by `ivf_file::read_record`, which takes a plain slice and a
-// place.
+// A reader of a recording's records: it keeps the lent file and its place together. The work is done by
+// `ivf_file::read_record`, which takes a plain slice and a place.
 #![tactic(auto)]
 ghost use Rattle.std.specs.Prelude.{◌≡◌};
 ghost use Rattle.ivf_file.specs.Record.{record_of};
