@@ -1,10 +1,11 @@
 // Standard input as a program uses it up: what is read and not used yet lies in a buffer of the program's.
 #![tactic(auto)]
+
 ghost use Rattle.std.specs.Prelude.{◌+◌, min, ◌≡◌};
 ghost use Rattle.base_input.specs.Input.{fresh_input, used_of, hand_of, filled_to, filled_by, Refilled};
 
 use base_parts::{front, rest};
-use base_stream::{Ending, Filled};
+use base_stream::{Ending, Filled, Streams};
 
 #[derive(Clone, Copy)]
 pub struct Input {
@@ -82,27 +83,27 @@ fn filled_to(end: usize, ended: bool, failed: bool) -> Input
 }
 
 // Says why a read failed, while errno tells.
-fn say_failed(filled: Filled) {
+fn say_failed(streams: &mut Streams, filled: Filled) {
     match filled {
-        Filled::Failed(_) => say_unread(),
+        Filled::Failed(_) => say_unread(streams),
         _ => {}
     }
 }
 
-fn say_unread() {
+fn say_unread(streams: &mut Streams) {
     let unread = Ending::Unread;
-    unread.say();
+    unread.say(streams);
 }
 
 // Moves what is at hand to the buffer's front, and fills the buffer behind it. Once a read failed no more is read.
-pub fn refill(buf: &mut [u8], input: Input) -> Input
+pub fn refill(streams: &mut Streams, buf: &mut [u8], input: Input) -> Input
     ensures { Refilled buf.old input result buf.new }
 {
     if input.failed {
         return input;
     }
     let n = base_buffer::to_front(buf, input.start, input.end);
-    let filled = base_stream::fill(buf, n);
-    say_failed(filled);
+    let filled = base_stream::fill(streams, buf, n);
+    say_failed(streams, filled);
     filled_by(buf.len(), filled)
 }

@@ -3,9 +3,41 @@
 ghost use Rattle.std.specs.Prelude.{◌+◌, ◌≤◌, ◌≡◌, length};
 ghost use Rattle.base_stream.specs.Stream.{bytes, end_of, ReadOn, FilledFrom, FrontFilled, WroteFront, room_left, RoomFor, EndsAs};
 
-use libc::{EINTR, STDERR_FILENO, STDIN_FILENO, STDOUT_FILENO};
+use std::io::{Cursor, Error, ErrorKind, Read, Stderr, Stdin, Stdout, Write};
 
-// Why no more is read into a buffer. `io::read_full` takes a failed read for the input's end.
+// The standard streams, and why the last call of theirs that failed did so: what C has as errno.
+#[derive(Drop)]
+pub struct Streams {
+    input: Stdin,
+    output: Stdout,
+    errors: Stderr,
+    errno: Error,
+}
+
+impl Streams {
+    pub fn new(input: Stdin, output: Stdout, errors: Stderr) -> Streams {
+        Streams {
+            input,
+            output,
+            errors,
+            errno: Error::from_raw_os_error(0),
+        }
+    }
+
+    // A call failed: whether it can be made again.
+    fn failed(&mut self, errno: Error) -> Moved
+        ensures { bytes result ≡ 0 }
+    {
+        self.errno = errno;
+        if errno.kind() == ErrorKind::Interrupted {
+            Moved::Bytes(0)
+        } else {
+            Moved::Broken
+        }
+    }
+}
+
+// Why no more is read into a buffer.
 #[derive(Clone, Copy)]
 pub enum Filled {
     // It is full.
@@ -25,27 +57,16 @@ enum Moved {
     Broken,
 }
 
-// Whether the call that failed can be made again.
-fn interrupted() -> bool {
-    os::errno() == EINTR
-}
-
 // One read into a buffer from a place on.
-fn read_some(buf: &mut [u8], at: usize) -> Moved
+fn read_some(streams: &mut Streams, buf: &mut [u8], at: usize) -> Moved
     requires { at ≤ length buf.old }
     ensures { ReadOn buf.old at result buf.new }
 {
-    let got = libc::read(STDIN_FILENO, &mut buf[at..]);
-    if got < 0 {
-        if interrupted() {
-            return Moved::Bytes(0);
-        }
-        return Moved::Broken;
+    match streams.input.read(&mut buf[at..]) {
+        Ok(0) => Moved::Nothing,
+        Ok(got) => Moved::Bytes(got),
+        Err(e) => streams.failed(e),
     }
-    if got == 0 {
-        return Moved::Nothing;
-    }
-    Moved::Bytes(io::count(got, &buf[at..]))
 }
 
 fn end_of(moved: Moved, at: usize) -> Filled
@@ -60,7 +81,7 @@ fn end_of(moved: Moved, at: usize) -> Filled
 
 // Reads standard input into a buffer from a place on, until it is full, the input ends or a read fails.
 // Nothing says that an interrupted read ever succeeds, so the turns are counted down.
-pub fn fill(buf: &mut [u8], at: usize) -> Filled
+pub fn fill(streams: &mut Streams, buf: &mut [u8], at: usize) -> Filled
     ensures { FilledFrom buf.old at result buf.new }
 {
     if at > buf.len() {
@@ -72,7 +93,7 @@ pub fn fill(buf: &mut [u8], at: usize) -> Filled
         if next >= buf.len() {
             return Filled::Full;
         }
-        let moved = read_some(buf, next);
+        let moved = read_some(streams, buf, next);
         let Moved::Bytes(n) = moved else {
             return end_of(moved, next);
         };
@@ -83,36 +104,30 @@ pub fn fill(buf: &mut [u8], at: usize) -> Filled
 }
 
 // Reads n bytes to a buffer's front, or nothing where it has no room for them.
-pub fn fill_front(buf: &mut [u8], n: usize) -> Filled
+pub fn fill_front(streams: &mut Streams, buf: &mut [u8], n: usize) -> Filled
     ensures { FrontFilled buf.old n result buf.new }
 {
     if n > buf.len() {
         return Filled::Ended(0);
     }
     let start = 0;
-    fill(&mut buf[start..n], 0)
+    fill(streams, &mut buf[start..n], 0)
 }
 
 // One write of a buffer's bytes from a place to another.
-fn write_some(out: &[u8], at: usize, end: usize) -> Moved
+fn write_some(streams: &mut Streams, out: &[u8], at: usize, end: usize) -> Moved
     requires { (at ≤ end) × (end ≤ length out.now) }
     ensures { at + bytes result ≤ end }
 {
-    let put = libc::write(STDOUT_FILENO, &out[at..end]);
-    if put < 0 {
-        if interrupted() {
-            return Moved::Bytes(0);
-        }
-        return Moved::Broken;
+    match streams.output.write(&out[at..end]) {
+        Ok(0) => Moved::Nothing,
+        Ok(put) => Moved::Bytes(put),
+        Err(e) => streams.failed(e),
     }
-    if put == 0 {
-        return Moved::Nothing;
-    }
-    Moved::Bytes(io::count(put, &out[at..end]))
 }
 
 // Writes a buffer's first n bytes to standard output, and answers whether all of them went out; if not, errno says why.
-fn write_front(out: &[u8], n: usize) -> bool
+fn write_front(streams: &mut Streams, out: &[u8], n: usize) -> bool
     ensures { WroteFront (length out.now) n result }
 {
     if n > out.len() {
@@ -124,7 +139,7 @@ fn write_front(out: &[u8], n: usize) -> bool
         if at == n {
             return true;
         }
-        let moved = write_some(out, at, n);
+        let moved = write_some(streams, out, at, n);
         let Moved::Bytes(k) = moved else {
             return false;
         };
@@ -153,13 +168,13 @@ fn has_room(size: usize, at: usize, n: usize) -> bool
 
 // Makes room for n bytes from `at` on: where fewer are left, what stands before it is written, and the text goes on
 // at 0.
-pub fn make_room(out: &[u8], at: usize, n: usize) -> Room
+pub fn make_room(streams: &mut Streams, out: &[u8], at: usize, n: usize) -> Room
     ensures { RoomFor (length out.now) at n result }
 {
     if has_room(out.len(), at, n) {
         return Room::At(at);
     }
-    if write_front(out, at) {
+    if write_front(streams, out, at) {
         Room::At(0)
     } else {
         Room::Failed
@@ -181,26 +196,52 @@ pub enum Ending {
 }
 
 // Writes a buffer's first `at` bytes, which come before the end as it is given.
-pub fn finish(out: &[u8], at: usize, ending: Ending) -> Ending
+pub fn finish(streams: &mut Streams, out: &[u8], at: usize, ending: Ending) -> Ending
     ensures { EndsAs (length out.now) at ending result }
 {
-    if !write_front(out, at) {
+    if !write_front(streams, out, at) {
         return Ending::Unwritten;
     }
     ending
 }
 
-fn say(line: &[u8]) {
-    io::write_all(STDERR_FILENO, line);
+fn say(streams: &Streams, line: &[u8]) {
+    let mut errors = streams.errors;
+    let _ = Write::write_all(&mut errors, line);
+}
+
+// The length of the system's words for an error, which ` (os error N)` follows.
+fn words_length(text: &[u8]) -> usize
+    ensures { result ≤ length text.now }
+{
+    for i in 0..text.len() {
+        if text[i] == 0 || text[i..].starts_with(b" (os error ") {
+            return i;
+        }
+    }
+    text.len()
+}
+
+// What couldn't be done, and errno's text.
+fn say_failed(streams: &Streams, what: &[u8]) {
+    let errno = streams.errno;
+    let mut text = Cursor::new([0u8; 128]);
+    let _ = write!(text, "{errno}");
+    let text = text.into_inner();
+    let n = words_length(&text);
+    say(streams, what);
+    say(streams, b": ");
+    say(streams, &text[..n]);
+    say(streams, b"\n");
 }
 
 impl Ending {
-    pub fn say(self) {
+    pub fn say(self, streams: &Streams) {
         match self {
-            Ending::Done => say(b"status 0\n"),
-            Ending::Refused => say(b"status 1\n"),
-            Ending::Unread => os::fail(b"can't read"),
-            Ending::Unwritten => os::fail(b"can't write"),
+            Ending::Done => say(streams, b"status 0\n"),
+            Ending::Refused => say(streams, b"status 1\n"),
+            Ending::Unread => say_failed(streams, b"can't read"),
+            Ending::Unwritten => say_failed(streams, b"can't write"),
             Ending::Said => {}
         }
     }

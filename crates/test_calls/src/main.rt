@@ -7,6 +7,7 @@
 // 2, a place and a file: the record there by its length, its time, where its data starts and where the next one
 // stands; or end, or cut.
 #![tactic(auto)]
+
 ghost use Rattle.std.specs.Prelude.{◌≡◌, length};
 
 use base_enums::{
@@ -16,7 +17,7 @@ use base_enums::{
 };
 use base_little::Little;
 use base_parts::{front, rest};
-use base_stream::{Ending, Filled, Room, fill_front};
+use base_stream::{Ending, Filled, Room, Streams, fill_front};
 use ivf_file::{Record, RecordRead};
 use test_values::{byte_at, flag_at};
 
@@ -204,16 +205,16 @@ fn stopped(filled: Filled) -> Asked {
     }
 }
 
-fn read_asked(buf: &mut [u8]) -> Asked {
+fn read_asked(streams: &mut Streams, buf: &mut [u8]) -> Asked {
     let mut size = [0u8; 4];
-    let filled = base_stream::fill(&mut size, 0);
+    let filled = base_stream::fill(streams, &mut size, 0);
     let Filled::Full = filled else {
         return stopped(filled);
     };
     let Little::Value(n) = base_little::read_little(&size, 0, 4) else {
         return Asked::End;
     };
-    let filled = fill_front(buf, n as usize);
+    let filled = fill_front(streams, buf, n as usize);
     match filled {
         Filled::Full => of_size(n as usize),
         _ => stopped(filled),
@@ -227,23 +228,23 @@ fn of_size(n: usize) -> Asked {
 // A line takes less: at most a record's bytes and six numbers.
 const ROOM: usize = 131072;
 
-fn end(out: &[u8], at: usize, asked: Asked) -> Ending {
+fn end(streams: &mut Streams, out: &[u8], at: usize, asked: Asked) -> Ending {
     match asked {
         Asked::Unread => Ending::Unread,
-        _ => base_stream::finish(out, at, Ending::Done),
+        _ => base_stream::finish(streams, out, at, Ending::Done),
     }
 }
 
 // Nothing says that the input ends, so the records are counted down.
-fn tell_all(buf: &mut [u8], out: &mut [u8]) -> Ending {
+fn tell_all(streams: &mut Streams, buf: &mut [u8], out: &mut [u8]) -> Ending {
     let mut at = 0;
     let mut left = u64::MAX;
     while left > 0 {
-        let asked = read_asked(buf);
+        let asked = read_asked(streams, buf);
         let Asked::Bytes(n) = asked else {
-            return end(out, at, asked);
+            return end(streams, out, at, asked);
         };
-        let room = base_stream::make_room(out, at, ROOM);
+        let room = base_stream::make_room(streams, out, at, ROOM);
         let Room::At(next) = room else {
             return Ending::Unwritten;
         };
@@ -259,9 +260,10 @@ fn out_buffer() -> [u8; 262144]
     [0; 262144]
 }
 
-fn main() {
+fn main(rt: HostRuntime) {
+    let mut streams = Streams::new(rt.stdin(), rt.stdout(), rt.stderr());
     let mut buf = io::large_buffer();
     let mut out = out_buffer();
-    let ending = tell_all(&mut buf, &mut out);
-    ending.say();
+    let ending = tell_all(&mut streams, &mut buf, &mut out);
+    ending.say(&streams);
 }

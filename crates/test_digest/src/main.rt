@@ -1,6 +1,7 @@
 // Answers chunks by a line of digests each, for the runs that put millions of them, and for the benchmark of a parse
 // and of a segment step. tests/reader/DIGEST.md says what is read and what is printed.
 #![tactic(auto)]
+
 ghost use Rattle.std.specs.Prelude.{◌≤◌, ◌≡◌, length};
 
 use base_enums::{BitDepth, ColorRange, ColorSpace};
@@ -10,7 +11,7 @@ use base_parts::{front, rest};
 use base_quantization::QuantizationParams;
 use base_segmentation::SegmentationParams;
 use base_size::FrameSize;
-use base_stream::{Ending, Filled, Room};
+use base_stream::{Ending, Filled, Room, Streams};
 use base_types::{Header, MAX_FRAMES_IN_SUPERFRAME, ReaderState};
 use chunk_answer::{Answer, ChunkRead};
 use segment_records::Segmentation;
@@ -597,9 +598,9 @@ impl Run {
 }
 
 // Fills the buffer.
-fn refilled(input: &mut [u8], run: Run) -> Run {
+fn refilled(streams: &mut Streams, input: &mut [u8], run: Run) -> Run {
     let n = base_buffer::to_front(input, run.start, run.end);
-    let filled = base_stream::fill(input, n);
+    let filled = base_stream::fill(streams, input, n);
     match filled {
         Filled::Full => run.filled(input.len(), false),
         Filled::Ended(end) => run.filled(end, true),
@@ -610,22 +611,22 @@ fn refilled(input: &mut [u8], run: Run) -> Run {
 // No record is longer.
 const LONGEST_RECORD: usize = 9 + LONGEST_CHUNK;
 
-fn filled(input: &mut [u8], run: Run) -> Run {
+fn filled(streams: &mut Streams, input: &mut [u8], run: Run) -> Run {
     if run.ended {
         return run;
     }
     if run.at_hand() >= LONGEST_RECORD {
         return run;
     }
-    refilled(input, run)
+    refilled(streams, input, run)
 }
 
 // No line is longer.
 const LONGEST_LINE: usize = 64;
 
 // Writes where there may be no room for the next line.
-fn flushed(out: &[u8], run: Run) -> Run {
-    let room = base_stream::make_room(out, run.at, LONGEST_LINE);
+fn flushed(streams: &mut Streams, out: &[u8], run: Run) -> Run {
+    let room = base_stream::make_room(streams, out, run.at, LONGEST_LINE);
     match room {
         Room::At(at) => run.written(at),
         Room::Failed => run.unwritten(),
@@ -700,17 +701,29 @@ fn step(s: &[u8], out: &mut [u8], run: Run, series: Series) -> After {
     }
 }
 
-fn turn(input: &mut [u8], out: &mut [u8], before: Run, series: Series) -> After {
-    let run = flushed(out, before);
+fn turn(
+    streams: &mut Streams,
+    input: &mut [u8],
+    out: &mut [u8],
+    before: Run,
+    series: Series,
+) -> After {
+    let run = flushed(streams, out, before);
     if run.going {
-        turn_on(input, out, run, series)
+        turn_on(streams, input, out, run, series)
     } else {
         After { run, series }
     }
 }
 
-fn turn_on(input: &mut [u8], out: &mut [u8], before: Run, series: Series) -> After {
-    let run = filled(input, before);
+fn turn_on(
+    streams: &mut Streams,
+    input: &mut [u8],
+    out: &mut [u8],
+    before: Run,
+    series: Series,
+) -> After {
+    let run = filled(streams, input, before);
     if run.going {
         step(unused(input, run), out, run, series)
     } else {
@@ -719,30 +732,30 @@ fn turn_on(input: &mut [u8], out: &mut [u8], before: Run, series: Series) -> Aft
 }
 
 // Writes what is left to be written.
-fn finished(out: &[u8], run: Run) -> Ending {
+fn finished(streams: &mut Streams, out: &[u8], run: Run) -> Ending {
     if run.unread {
         return Ending::Unread;
     }
     if run.unwritten {
         return Ending::Unwritten;
     }
-    base_stream::finish(out, run.at, Ending::Done)
+    base_stream::finish(streams, out, run.at, Ending::Done)
 }
 
 // Nothing says that the input ends, so the turns are counted down.
-fn answer_all(input: &mut [u8], out: &mut [u8]) -> Ending {
+fn answer_all(streams: &mut Streams, input: &mut [u8], out: &mut [u8]) -> Ending {
     let mut run = Run::new();
     let mut series = fresh();
     let mut left = u64::MAX;
     while left > 0 && run.going {
-        let after = turn(input, out, run, series);
+        let after = turn(streams, input, out, run, series);
         let next_run = after.run;
         let next_series = after.series;
         run = next_run;
         series = next_series;
         left -= 1;
     }
-    finished(out, run)
+    finished(streams, out, run)
 }
 
 // Four times what a record may take, so that most of each read is new.
@@ -752,9 +765,10 @@ fn input_buffer() -> [u8; 262144]
     [0; 262144]
 }
 
-fn main() {
+fn main(rt: HostRuntime) {
+    let mut streams = Streams::new(rt.stdin(), rt.stdout(), rt.stderr());
     let mut input = input_buffer();
     let mut out = io::large_buffer();
-    let ending = answer_all(&mut input, &mut out);
-    ending.say();
+    let ending = answer_all(&mut streams, &mut input, &mut out);
+    ending.say(&streams);
 }

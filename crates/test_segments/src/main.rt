@@ -4,12 +4,13 @@
 // printed instead. Then come the fields of a header that the records follow from, spelled as `test_values` has it.
 // What lacks at the input's end is 255.
 #![tactic(auto)]
+
 use base_enums::{ColorRange, ColorSpace, FrameType, InterpolationFilter, Profile};
 use base_loop_filter::LoopFilterParams;
 use base_parts::rest;
 use base_quantization::QuantizationParams;
 use base_segmentation::SegmentationParams;
-use base_stream::{Ending, Filled, Room, fill_front};
+use base_stream::{Ending, Filled, Room, Streams, fill_front};
 use base_types::Header;
 use segment_records::Segmentation;
 use test_values::{byte_at, flag_at, signed_byte_at, signed_short_at};
@@ -295,25 +296,31 @@ fn answered(out: &mut [u8], kind: u8, s: &[u8], last: [Segmentation; 8], at: usi
     }
 }
 
-fn case(out: &mut [u8], kind: u8, last: [Segmentation; 8], at: usize) -> After {
+fn case(
+    streams: &mut Streams,
+    out: &mut [u8],
+    kind: u8,
+    last: [Segmentation; 8],
+    at: usize,
+) -> After {
     let mut buf = [255u8; 352];
-    let filled = fill_front(&mut buf, length_of(kind));
+    let filled = fill_front(streams, &mut buf, length_of(kind));
     match filled {
         Filled::Failed(_) => unread(last, at),
         _ => answered(out, kind, &buf, last, at),
     }
 }
 
-fn next_case(out: &mut [u8], last: [Segmentation; 8], at: usize) -> After {
+fn next_case(streams: &mut Streams, out: &mut [u8], last: [Segmentation; 8], at: usize) -> After {
     let mut kind = [255u8; 1];
-    let filled = base_stream::fill(&mut kind, 0);
+    let filled = base_stream::fill(streams, &mut kind, 0);
     let Filled::Full = filled else {
         return stopped(filled, last, at);
     };
     if kind[0] > 3 {
         return ended(last, at);
     }
-    case(out, kind[0], last, at)
+    case(streams, out, kind[0], last, at)
 }
 
 fn stopped(filled: Filled, last: [Segmentation; 8], at: usize) -> After {
@@ -327,26 +334,26 @@ fn stopped(filled: Filled, last: [Segmentation; 8], at: usize) -> After {
 const ROOM: usize = 4096;
 
 // Writes where there may be no room for the next case's lines.
-fn turn(out: &mut [u8], last: [Segmentation; 8], at: usize) -> After {
-    let room = base_stream::make_room(out, at, ROOM);
+fn turn(streams: &mut Streams, out: &mut [u8], last: [Segmentation; 8], at: usize) -> After {
+    let room = base_stream::make_room(streams, out, at, ROOM);
     match room {
-        Room::At(next) => next_case(out, last, next),
+        Room::At(next) => next_case(streams, out, last, next),
         Room::Failed => unwritten(last, at),
     }
 }
 
-fn finished(out: &[u8], after: After) -> Ending {
+fn finished(streams: &mut Streams, out: &[u8], after: After) -> Ending {
     if after.unread {
         return Ending::Unread;
     }
     if after.unwritten {
         return Ending::Unwritten;
     }
-    base_stream::finish(out, after.at, Ending::Done)
+    base_stream::finish(streams, out, after.at, Ending::Done)
 }
 
 // Nothing says that the input ends, so the cases are counted down.
-fn answer_all(out: &mut [u8]) -> Ending {
+fn answer_all(streams: &mut Streams, out: &mut [u8]) -> Ending {
     let mut after = After {
         segments: [Segmentation::default(); 8],
         at: 0,
@@ -357,14 +364,15 @@ fn answer_all(out: &mut [u8]) -> Ending {
     let mut left = u64::MAX;
     while left > 0 && after.more {
         let segments = after.segments;
-        after = turn(out, segments, after.at);
+        after = turn(streams, out, segments, after.at);
         left -= 1;
     }
-    finished(out, after)
+    finished(streams, out, after)
 }
 
-fn main() {
+fn main(rt: HostRuntime) {
+    let mut streams = Streams::new(rt.stdin(), rt.stdout(), rt.stderr());
     let mut out = io::large_buffer();
-    let ending = answer_all(&mut out);
-    ending.say();
+    let ending = answer_all(&mut streams, &mut out);
+    ending.say(&streams);
 }

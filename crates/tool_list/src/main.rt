@@ -4,10 +4,11 @@
 // the front of the output buffer. Once a read or a write fails, nothing more is read; once a write fails, nothing more
 // is written.
 #![tactic(auto)]
+
 ghost use Rattle.std.specs.Prelude.{◌≡◌, length};
 
 use base_parts::{front, rest};
-use base_stream::{Ending, Filled, Room};
+use base_stream::{Ending, Filled, Room, Streams};
 use listing_lister::{Fed, Lister, ROOM, Wants};
 
 // The buffers' ends, and how the run goes.
@@ -96,31 +97,31 @@ fn forward(at: usize, end: usize, n: usize) -> usize {
 }
 
 // Says why a read failed, while errno tells. What was read before is still listed.
-fn say_unread() {
+fn say_unread(streams: &mut Streams) {
     let unread = Ending::Unread;
-    unread.say();
+    unread.say(streams);
 }
 
 // Moves what is not used to the buffer's front, and fills it.
-fn refilled(input: &mut [u8], run: Run) -> Run {
+fn refilled(streams: &mut Streams, input: &mut [u8], run: Run) -> Run {
     if run.failed {
         return run.stopped();
     }
     let n = base_buffer::to_front(input, run.start, run.end);
-    let filled = base_stream::fill(input, n);
+    let filled = base_stream::fill(streams, input, n);
     match filled {
         Filled::Full => run.filled(input.len(), false),
         Filled::Ended(end) => run.filled(end, true),
         Filled::Failed(end) => {
-            say_unread();
+            say_unread(streams);
             run.failed_behind(end)
         }
     }
 }
 
 // Writes the text, and makes room for more.
-fn flushed(out: &[u8], run: Run) -> Run {
-    let room = base_stream::make_room(out, run.at, ROOM);
+fn flushed(streams: &mut Streams, out: &[u8], run: Run) -> Run {
+    let room = base_stream::make_room(streams, out, run.at, ROOM);
     match room {
         Room::At(at) => run.written(at),
         Room::Failed => run.unwritten(),
@@ -128,10 +129,10 @@ fn flushed(out: &[u8], run: Run) -> Run {
 }
 
 // Does what the lister wants.
-fn served(input: &mut [u8], out: &[u8], run: Run, wants: Wants) -> Run {
+fn served(streams: &mut Streams, input: &mut [u8], out: &[u8], run: Run, wants: Wants) -> Run {
     match wants {
-        Wants::Room => flushed(out, run),
-        Wants::Input => refilled(input, run),
+        Wants::Room => flushed(streams, out, run),
+        Wants::Input => refilled(streams, input, run),
         Wants::Again => run,
         Wants::Whole => run.stopped(),
         Wants::Refused => run.refused(),
@@ -146,22 +147,22 @@ fn fed(input: &[u8], out: &mut [u8], run: Run, lister: Lister) -> Fed {
 }
 
 // Writes what is left to be written.
-fn finished(out: &[u8], run: Run) -> Ending {
+fn finished(streams: &mut Streams, out: &[u8], run: Run) -> Ending {
     if run.unwritten {
         return Ending::Unwritten;
     }
     if run.failed {
-        return base_stream::finish(out, run.at, Ending::Said);
+        return base_stream::finish(streams, out, run.at, Ending::Said);
     }
     if run.refused {
-        base_stream::finish(out, run.at, Ending::Refused)
+        base_stream::finish(streams, out, run.at, Ending::Refused)
     } else {
-        base_stream::finish(out, run.at, Ending::Done)
+        base_stream::finish(streams, out, run.at, Ending::Done)
     }
 }
 
 // Nothing says that the input ends, so the turns are counted down.
-fn list(input: &mut [u8], out: &mut [u8]) -> Ending {
+fn list(streams: &mut Streams, input: &mut [u8], out: &mut [u8]) -> Ending {
     let mut run = Run::new();
     let mut lister = Lister::new();
     let mut left = u64::MAX;
@@ -169,11 +170,11 @@ fn list(input: &mut [u8], out: &mut [u8]) -> Ending {
         let turn = fed(input, out, run, lister);
         let after = turn.lister;
         let wants = turn.wants;
-        run = served(input, out, run.moved(turn.used, turn.at), wants);
+        run = served(streams, input, out, run.moved(turn.used, turn.at), wants);
         lister = after;
         left -= 1;
     }
-    finished(out, run)
+    finished(streams, out, run)
 }
 
 // Four times what a record may take, so that most of each read is new.
@@ -183,9 +184,10 @@ fn input_buffer() -> [u8; 262144]
     [0; 262144]
 }
 
-fn main() {
+fn main(rt: HostRuntime) {
+    let mut streams = Streams::new(rt.stdin(), rt.stdout(), rt.stderr());
     let mut input = input_buffer();
     let mut out = io::large_buffer();
-    let ending = list(&mut input, &mut out);
-    ending.say();
+    let ending = list(&mut streams, &mut input, &mut out);
+    ending.say(&streams);
 }

@@ -6,6 +6,7 @@
 // What a file's long form is made of `listing_tracer` decides: this program reads, hands in what has arrived, prints each
 // item by its form, and writes.
 #![tactic(auto)]
+
 ghost use Rattle.std.specs.Prelude.{◌≤◌, ◌≡◌, length};
 
 use base_enums::{BitDepth, ColorRange, ColorSpace, FrameType};
@@ -15,12 +16,12 @@ use base_parts::{front, rest};
 use base_quantization::QuantizationParams;
 use base_segmentation::SegmentationParams;
 use base_size::FrameSize;
-use base_stream::{Ending, Filled, Room, fill_front};
+use base_stream::{Ending, Filled, Room, Streams, fill_front};
 use base_types::{Header, ReaderState};
 use chunk_answer::{Answer, ChunkRead};
-use libc::STDERR_FILENO;
 use listing_tracer::{Traced, Tracer, Yields};
 use segment_records::Segmentation;
+use std::env::{Env, FillError};
 
 // Everything is printed by its form: the text, with marks in it. # stands for a number, % for one with a sign that is
 // lifted as in `text_signed`, ? for true or false, <a|b> for one of some words, and @ ends a form. One text holds all
@@ -486,11 +487,11 @@ impl Page {
 const ROOM: usize = 16384;
 
 // Writes where there may be no room for what comes next.
-fn flushed(out: &[u8], page: Page) -> Page {
+fn flushed(streams: &mut Streams, out: &[u8], page: Page) -> Page {
     if page.broken {
         return page;
     }
-    let room = base_stream::make_room(out, page.at, ROOM);
+    let room = base_stream::make_room(streams, out, page.at, ROOM);
     match room {
         Room::At(at) => Page { at, broken: false },
         Room::Failed => Page {
@@ -530,10 +531,17 @@ struct Listed {
     segments: [Segmentation; 8],
 }
 
-fn list_frame(form: &[u8], out: &mut [u8], place: Place, h: Header, before: Listed) -> Listed {
+fn list_frame(
+    streams: &mut Streams,
+    form: &[u8],
+    out: &mut [u8],
+    place: Place,
+    h: Header,
+    before: Listed,
+) -> Listed {
     let old = before.segments;
     let segments = Segmentation::update_segmentation(old, h);
-    let page = flushed(out, before.page);
+    let page = flushed(streams, out, before.page);
     let at = put_frame(form, out, page.at, place, h, segments);
     let page = page.moved(at);
     Listed { page, segments }
@@ -541,6 +549,7 @@ fn list_frame(form: &[u8], out: &mut [u8], place: Place, h: Header, before: List
 
 // There are never more than eight.
 fn list_nth(
+    streams: &mut Streams,
     form: &[u8],
     out: &mut [u8],
     chunk: u64,
@@ -558,10 +567,11 @@ fn list_nth(
         at: read.at[i],
         size: read.size[i],
     };
-    list_frame(form, out, place, h, before)
+    list_frame(streams, form, out, place, h, before)
 }
 
 fn list_frames(
+    streams: &mut Streams,
     form: &[u8],
     out: &mut [u8],
     chunk: u64,
@@ -571,13 +581,14 @@ fn list_frames(
 ) -> Listed {
     let mut listed = before;
     for i in 0..frames {
-        let after = list_nth(form, out, chunk, i, read, listed);
+        let after = list_nth(streams, form, out, chunk, i, read, listed);
         listed = after;
     }
     listed
 }
 
 fn list_refusal(
+    streams: &mut Streams,
     form: &[u8],
     out: &mut [u8],
     chunk: u64,
@@ -585,22 +596,38 @@ fn list_refusal(
     frame: usize,
     before: Listed,
 ) -> Listed {
-    let page = flushed(out, before.page);
+    let page = flushed(streams, out, before.page);
     let at = put_refusal(form, out, page.at, chunk, refusal, frame);
     let page = page.moved(at);
     let segments = before.segments;
     Listed { page, segments }
 }
 
-fn list_answer(form: &[u8], out: &mut [u8], chunk: u64, read: ChunkRead, before: Listed) -> Listed {
+fn list_answer(
+    streams: &mut Streams,
+    form: &[u8],
+    out: &mut [u8],
+    chunk: u64,
+    read: ChunkRead,
+    before: Listed,
+) -> Listed {
     let answer = read.answer;
     let Answer::Frames(n) = answer else {
-        return list_refusal(form, out, chunk, answer.number(), answer.frame(), before);
+        return list_refusal(
+            streams,
+            form,
+            out,
+            chunk,
+            answer.number(),
+            answer.frame(),
+            before,
+        );
     };
-    list_frames(form, out, chunk, n, read, before)
+    list_frames(streams, form, out, chunk, n, read, before)
 }
 
 fn list_single(
+    streams: &mut Streams,
     form: &[u8],
     out: &mut [u8],
     number: u8,
@@ -609,14 +636,20 @@ fn list_single(
     before: Listed,
 ) -> Listed {
     if number == 0 {
-        list_frame(form, out, place, h, before)
+        list_frame(streams, form, out, place, h, before)
     } else {
-        list_refusal(form, out, place.chunk, number, 0, before)
+        list_refusal(streams, form, out, place.chunk, number, 0, before)
     }
 }
 
-fn list_state(form: &[u8], out: &mut [u8], state: ReaderState, before: Page) -> Page {
-    let page = flushed(out, before);
+fn list_state(
+    streams: &mut Streams,
+    form: &[u8],
+    out: &mut [u8],
+    state: ReaderState,
+    before: Page,
+) -> Page {
+    let page = flushed(streams, out, before);
     let at = put_state(form, out, page.at, state);
     page.moved(at)
 }
@@ -641,16 +674,30 @@ fn after_chunk(
     }
 }
 
-fn answer_chunk(form: &[u8], s: &[u8], out: &mut [u8], series: Series) -> Series {
+fn answer_chunk(
+    streams: &mut Streams,
+    form: &[u8],
+    s: &[u8],
+    out: &mut [u8],
+    series: Series,
+) -> Series {
     let read = chunk_parser::parse_chunk(s, series.state);
-    let listed = list_answer(form, out, series.chunk, read, listed_before(series));
+    let listed = list_answer(
+        streams,
+        form,
+        out,
+        series.chunk,
+        read,
+        listed_before(series),
+    );
     let state = read.state;
-    let page = list_state(form, out, state, listed.page);
+    let page = list_state(streams, form, out, state, listed.page);
     let segments = listed.segments;
     after_chunk(series, page, state, segments)
 }
 
 fn answer_frame(
+    streams: &mut Streams,
     form: &[u8],
     s: &[u8],
     out: &mut [u8],
@@ -668,6 +715,7 @@ fn answer_frame(
     };
     let header = read.header;
     let listed = list_single(
+        streams,
         form,
         out,
         verdict.number(),
@@ -676,7 +724,7 @@ fn answer_frame(
         listed_before(series),
     );
     let state = read.state;
-    let page = list_state(form, out, state, listed.page);
+    let page = list_state(streams, form, out, state, listed.page);
     let segments = listed.segments;
     after_chunk(series, page, state, segments)
 }
@@ -700,25 +748,25 @@ fn stopped(filled: Filled) -> Record {
     }
 }
 
-fn read_chunk(buf: &mut [u8]) -> Record {
+fn read_chunk(streams: &mut Streams, buf: &mut [u8]) -> Record {
     let mut size = [0u8; 4];
-    let filled = base_stream::fill(&mut size, 0);
+    let filled = base_stream::fill(streams, &mut size, 0);
     let Filled::Full = filled else {
         return stopped(filled);
     };
     let Little::Value(n) = base_little::read_little(&size, 0, 4) else {
         return Record::End;
     };
-    let filled = fill_front(buf, n as usize);
+    let filled = fill_front(streams, buf, n as usize);
     match filled {
         Filled::Full => Record::Chunk(n as usize),
         _ => stopped(filled),
     }
 }
 
-fn read_frame(buf: &mut [u8]) -> Record {
+fn read_frame(streams: &mut Streams, buf: &mut [u8]) -> Record {
     let mut place = [0u8; 16];
-    let filled = base_stream::fill(&mut place, 0);
+    let filled = base_stream::fill(streams, &mut place, 0);
     let Filled::Full = filled else {
         return stopped(filled);
     };
@@ -728,31 +776,39 @@ fn read_frame(buf: &mut [u8]) -> Record {
     let Little::Value(size) = base_little::read_little(&place, 8, 8) else {
         return Record::End;
     };
-    let chunk = read_chunk(buf);
+    let chunk = read_chunk(streams, buf);
     match chunk {
         Record::Chunk(n) => Record::Frame(n, offset as usize, size as usize),
         _ => chunk,
     }
 }
 
-fn read_series_record(buf: &mut [u8]) -> Record {
+fn read_series_record(streams: &mut Streams, buf: &mut [u8]) -> Record {
     let mut kind = [4u8; 1];
-    let filled = base_stream::fill(&mut kind, 0);
+    let filled = base_stream::fill(streams, &mut kind, 0);
     let Filled::Full = filled else {
         return stopped(filled);
     };
     match kind[0] {
         0 => Record::Fresh,
-        1 => read_chunk(buf),
-        3 => read_frame(buf),
+        1 => read_chunk(streams, buf),
+        3 => read_frame(streams, buf),
         _ => Record::End,
     }
 }
 
-fn after_record(form: &[u8], record: Record, buf: &[u8], out: &mut [u8], series: Series) -> Series {
+fn after_record(
+    streams: &mut Streams,
+    form: &[u8],
+    record: Record,
+    buf: &[u8],
+    out: &mut [u8],
+    series: Series,
+) -> Series {
     match record {
-        Record::Chunk(n) => answer_chunk(form, front(buf, n), out, series),
+        Record::Chunk(n) => answer_chunk(streams, form, front(buf, n), out, series),
         Record::Frame(n, offset, size) => answer_frame(
+            streams,
             form,
             front(buf, n),
             out,
@@ -773,45 +829,45 @@ fn is_last(record: Record) -> bool {
 }
 
 // Writes what is left to be written.
-fn finished(out: &[u8], page: Page, ending: Ending) -> Ending {
+fn finished(streams: &mut Streams, out: &[u8], page: Page, ending: Ending) -> Ending {
     if page.broken {
         return Ending::Unwritten;
     }
-    base_stream::finish(out, page.at, ending)
+    base_stream::finish(streams, out, page.at, ending)
 }
 
-fn end(out: &[u8], record: Record, page: Page) -> Ending {
+fn end(streams: &mut Streams, out: &[u8], record: Record, page: Page) -> Ending {
     match record {
-        Record::Unread => end_unread(out, page),
-        _ => finished(out, page, Ending::Done),
+        Record::Unread => end_unread(streams, out, page),
+        _ => finished(streams, out, page, Ending::Done),
     }
 }
 
 // What was listed before a read failed is written all the same. Why it failed is said first, while errno tells.
-fn end_unread(out: &[u8], page: Page) -> Ending {
+fn end_unread(streams: &mut Streams, out: &[u8], page: Page) -> Ending {
     let unread = Ending::Unread;
-    unread.say();
-    finished(out, page, Ending::Said)
+    unread.say(streams);
+    finished(streams, out, page, Ending::Said)
 }
 
 // Nothing says that the input ends, so the records are counted down.
-fn trace_series(form: &[u8], buf: &mut [u8], out: &mut [u8]) -> Ending {
+fn trace_series(streams: &mut Streams, form: &[u8], buf: &mut [u8], out: &mut [u8]) -> Ending {
     let page = Page {
         at: 0,
         broken: false,
     };
     let mut series = fresh(page);
-    let mut record = read_series_record(buf);
+    let mut record = read_series_record(streams, buf);
     let mut left = u64::MAX;
     while left > 0 {
         if is_last(record) {
-            return end(out, record, series.page);
+            return end(streams, out, record, series.page);
         }
-        series = after_record(form, record, buf, out, series);
+        series = after_record(streams, form, record, buf, out, series);
         if series.page.broken {
             return Ending::Unwritten;
         }
-        record = read_series_record(buf);
+        record = read_series_record(streams, buf);
         left -= 1;
     }
     Ending::Done
@@ -897,23 +953,23 @@ fn forward(at: usize, end: usize, n: usize) -> usize {
 }
 
 // Says why a read failed, while errno tells. What was read before is still printed.
-fn say_unread() {
+fn say_unread(streams: &mut Streams) {
     let unread = Ending::Unread;
-    unread.say();
+    unread.say(streams);
 }
 
 // Moves what is not used to the buffer's front, and fills it.
-fn refilled(input: &mut [u8], run: Run) -> Run {
+fn refilled(streams: &mut Streams, input: &mut [u8], run: Run) -> Run {
     if run.failed {
         return run.stopped();
     }
     let n = base_buffer::to_front(input, run.start, run.end);
-    let filled = base_stream::fill(input, n);
+    let filled = base_stream::fill(streams, input, n);
     match filled {
         Filled::Full => run.filled(input.len(), false),
         Filled::Ended(end) => run.filled(end, true),
         Filled::Failed(end) => {
-            say_unread();
+            say_unread(streams);
             run.failed_behind(end)
         }
     }
@@ -954,21 +1010,28 @@ fn put_item(form: &[u8], out: &mut [u8], at: usize, traced: Traced) -> usize {
     }
 }
 
-fn printed(form: &[u8], out: &mut [u8], run: Run, traced: Traced) -> Run {
-    let page = flushed(out, run.page);
+fn printed(streams: &mut Streams, form: &[u8], out: &mut [u8], run: Run, traced: Traced) -> Run {
+    let page = flushed(streams, out, run.page);
     let at = put_item(form, out, page.at, traced);
     run.with_page(page.moved(at))
 }
 
-fn served(form: &[u8], input: &mut [u8], out: &mut [u8], run: Run, traced: Traced) -> Run {
+fn served(
+    streams: &mut Streams,
+    form: &[u8],
+    input: &mut [u8],
+    out: &mut [u8],
+    run: Run,
+    traced: Traced,
+) -> Run {
     let yields = traced.yields;
     match yields {
-        Yields::More => refilled(input, run),
+        Yields::More => refilled(streams, input, run),
         Yields::Again => run,
-        Yields::NoFile => printed(form, out, run.refused(), traced),
-        Yields::Cut(_, _) => printed(form, out, run.refused(), traced),
+        Yields::NoFile => printed(streams, form, out, run.refused(), traced),
+        Yields::Cut(_, _) => printed(streams, form, out, run.refused(), traced),
         Yields::Over => run.stopped(),
-        _ => printed(form, out, run, traced),
+        _ => printed(streams, form, out, run, traced),
     }
 }
 
@@ -977,30 +1040,30 @@ fn called(input: &[u8], run: Run, tracer: Tracer) -> Traced {
     listing_tracer::next_item(tracer, at_hand, run.ended)
 }
 
-fn end_file(out: &[u8], run: Run) -> Ending {
+fn end_file(streams: &mut Streams, out: &[u8], run: Run) -> Ending {
     if run.failed {
-        return finished(out, run.page, Ending::Said);
+        return finished(streams, out, run.page, Ending::Said);
     }
     if run.refused {
-        finished(out, run.page, Ending::Refused)
+        finished(streams, out, run.page, Ending::Refused)
     } else {
-        finished(out, run.page, Ending::Done)
+        finished(streams, out, run.page, Ending::Done)
     }
 }
 
 // Nothing says that the input ends, so the turns are counted down.
-fn trace_file(form: &[u8], input: &mut [u8], out: &mut [u8]) -> Ending {
+fn trace_file(streams: &mut Streams, form: &[u8], input: &mut [u8], out: &mut [u8]) -> Ending {
     let mut run = Run::new();
     let mut tracer = Tracer::new();
     let mut left = u64::MAX;
     while left > 0 && run.going {
         let traced = called(input, run, tracer);
         let after = traced.tracer;
-        run = served(form, input, out, run.moved(traced.used), traced);
+        run = served(streams, form, input, out, run.moved(traced.used), traced);
         tracer = after;
         left -= 1;
     }
-    end_file(out, run)
+    end_file(streams, out, run)
 }
 
 // Four times what a record may take, so that most of each read is new.
@@ -1010,22 +1073,26 @@ fn input_buffer() -> [u8; 262144]
     [0; 262144]
 }
 
-fn on_file(form: &[u8]) {
+fn on_file(streams: &mut Streams, form: &[u8]) {
     let mut input = input_buffer();
     let mut out = io::large_buffer();
-    let ending = trace_file(form, &mut input, &mut out);
-    ending.say();
+    let ending = trace_file(streams, form, &mut input, &mut out);
+    ending.say(streams);
 }
 
-fn on_series(form: &[u8]) {
+fn on_series(streams: &mut Streams, form: &[u8]) {
     let mut buf = io::large_buffer();
     let mut out = io::large_buffer();
-    let ending = trace_series(form, &mut buf, &mut out);
-    ending.say();
+    let ending = trace_series(streams, form, &mut buf, &mut out);
+    ending.say(streams);
 }
 
-fn trace(form: &[u8], file: bool) {
-    if file { on_file(form) } else { on_series(form) }
+fn trace(streams: &mut Streams, form: &[u8], file: bool) {
+    if file {
+        on_file(streams, form)
+    } else {
+        on_series(streams, form)
+    }
 }
 
 // What the arguments ask for.
@@ -1036,22 +1103,29 @@ enum Mode {
     Unknown,
 }
 
-fn asked() -> Mode {
-    let words = os::arg_count();
-    if words < 2 {
-        return Mode::File;
-    }
+fn asked(rt: &impl Env) -> Mode {
     let mut word = [0u8; 8];
-    let n = os::arg(1, &mut word);
-    if words == 2 && check::same(&word[..n], b"series") {
-        Mode::Series
-    } else {
-        Mode::Unknown
+    match rt.arg(1, &mut word) {
+        Ok(n) => {
+            if &word[..n] == b"series".as_slice() && is_alone(rt) {
+                Mode::Series
+            } else {
+                Mode::Unknown
+            }
+        }
+        Err(FillError::NotPresent) => Mode::File,
+        Err(FillError::TooLong) => Mode::Unknown,
     }
 }
 
-fn forms(file: bool) {
+// Whether there is no second argument.
+fn is_alone(rt: &impl Env) -> bool {
+    matches!(rt.arg(2, &mut []), Err(FillError::NotPresent))
+}
+
+fn forms(streams: &mut Streams, file: bool) {
     trace(
+        streams,
         b"# refused # frame #\n@\
         # # <key|intra|inter|show> # # # # # #\n\
         \x20 Header { profile: Profile#, bit_depth: Depth#, subsampling_x: ?, subsampling_y: ?, \
@@ -1085,13 +1159,14 @@ fn forms(file: bool) {
     )
 }
 
-fn main() {
-    let mode = asked();
+fn main(rt: HostRuntime) {
+    let mode = asked(&rt);
+    let mut streams = Streams::new(rt.stdin(), rt.stdout(), rt.stderr());
     match mode {
-        Mode::File => forms(true),
-        Mode::Series => forms(false),
+        Mode::File => forms(&mut streams, true),
+        Mode::Series => forms(&mut streams, false),
         Mode::Unknown => {
-            io::write_all(STDERR_FILENO, b"tool_trace: takes no argument but series\n");
+            let _ = rt.eprintln("tool_trace: takes no argument but series");
         }
     }
 }

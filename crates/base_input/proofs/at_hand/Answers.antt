@@ -1,5 +1,4 @@
 use mathlib.Core.Path.{◌∙◌}
-use borrow.Author.Rules.{rules}
 use Rattle.base_input.proofs.at_hand.Goals as goal
 
 pub returns : goal.returns

@@ -1,9 +1,6 @@
-use native.Mathlib.Omega.{arith}
-use Rattle.base_stream.proofs.Kept.{kept_before, stopped}
 use Prim.Native.Nat.{◌≤◌}
 use mathlib.Core.Path.{◌≡◌}
 use lib.ListN.{length, take}
-use borrow.Author.Rules.{rules}
 use Rattle.base_stream.proofs.fill.Given as goal
 
 abbrev pub invariant-loop-left : goal.invariant-loop-left

@@ -1,7 +1,5 @@
 use mathlib.Core.Path.{refl}
-use mathlib.Core.Logic.{inl, inr}
-use borrow.Author.Rules.{rules}
-use borrow.Author.Tests.{not-false}
+use mathlib.Core.Logic.{inr}
 use Rattle.base_stream.proofs.finish.Goals as goal
 
 pub returns-then-not-write_front : goal.returns-then-not-write_front

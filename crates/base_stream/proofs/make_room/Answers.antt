@@ -1,5 +1,4 @@
 use mathlib.Core.Path.{sym, ◌∙◌}
-use borrow.Author.Rules.{rules}
 use Rattle.base_stream.proofs.Left.{room_inside}
 use Rattle.base_stream.proofs.make_room.Goals as goal
 

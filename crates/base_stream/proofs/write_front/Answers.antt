@@ -1,7 +1,3 @@
-use Prim.Native.Nat.{◌≤◌}
-use native.Mathlib.Omega.{arith}
-use lib.ListN.{length}
-use borrow.Author.Rules.{rules}
 use Rattle.base_stream.proofs.Left.{unwritten}
 use Rattle.base_stream.proofs.write_front.Goals as goal
 

@@ -1,8 +1,5 @@
 use Prim.Native.Nat.{◌≤◌}
-use native.Mathlib.Omega.{arith}
 use lib.ListN.{length}
-use borrow.Author.Rules.{rules}
-use Rattle.base_stream.proofs.Left.{unwritten}
 use Rattle.base_stream.proofs.write_front.Given as goal
 
 abbrev pub invariant-loop-left : goal.invariant-loop-left

@@ -1,4 +1,3 @@
-use borrow.Author.Rules.{rules}
 use Rattle.base_input.proofs.Input.used.Goals as goal
 
 pub returns : goal.returns

@@ -9,8 +9,7 @@ use mir.Syntax.{w16, w32}
 use mir.Val.{Fits, SFits}
 use mir.Facts.{to_z-of_z, sfits_widen}
 use Rattle.text_signed.specs.Number.{lifted}
-use Rattle.text_signed.proofs.lift.Statement.{statement}
-use Rattle.text_signed.proofs.lift.Tie as tie
+use Rattle.text_signed.proofs.lift.Goals as goal
 
 -- what is left where 65,536 is added, fits 32 bits, with a sign and without, and is the number lifted
 abbrev Raised : ℤ → ℕ → Type 0
@@ -24,28 +23,25 @@ raised : (z : ℤ) → SFits w16 z → Raised (z +ℤ pos 65536) (lifted z)
 raised (pos n) f = (record { sfits = omega (arith, f.sfits) }, (tt, record { fits = omega (arith, f.sfits) }), omega arith)
 raised (negsuc n) f = below n (ltb 65536 (suc n)) f refl
 
-cast-result : tie.Need-overflow-cast-result
-cast-result c = let f = c.ranges.n in rw (to_z-of_z f) (sfits_widen tt f)
+pub overflow_cast-result : goal.overflow_cast-result
+overflow_cast-result c = let f = c.ranges.n in rw (to_z-of_z f) (sfits_widen tt f)
 
-add-result : tie.Need-overflow-add-result
-add-result c =
+pub overflow_add-result : goal.overflow_add-result
+overflow_add-result c =
     let f = c.ranges.n in
     let g : SFits w32 c.args.n = sfits_widen tt f in
     rw (to_z-of_z f, to_z-of_z g) (raised c.args.n f).0
 
-cast-result-2 : tie.Need-overflow-cast-result-2
-cast-result-2 c =
+pub overflow_cast-result-2 : goal.overflow_cast-result-2
+overflow_cast-result-2 c =
     let f = c.ranges.n in
     let g : SFits w32 c.args.n = sfits_widen tt f in
     let r = raised c.args.n f in
     rw (to_z-of_z f, to_z-of_z g, to_z-of_z r.0) r.1
 
-returns : tie.Need-returns
+pub returns : goal.returns
 returns c =
     let f = c.ranges.n in
     let g : SFits w32 c.args.n = sfits_widen tt f in
     let r = raised c.args.n f in
     rw (to_z-of_z f, to_z-of_z g, to_z-of_z r.0) r.2
-
-pub lift-spec : {M : Type 1} → statement M
-lift-spec = tie.close (tie.spec cast-result add-result cast-result-2 returns)

@@ -1,0 +1,6 @@
+use Rattle.base_bytes.proofs.Append.{then}
+use borrow.Author.Rules.{rules}
+use Rattle.text_line.proofs.put_last.Goals as goal
+
+pub returns : goal.returns
+returns c = then c.put_number-next.ensures c.put.ensures

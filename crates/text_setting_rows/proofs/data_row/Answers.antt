@@ -1,0 +1,24 @@
+use mathlib.Core.Path.{◌≡◌}
+use native.Mathlib.Omega.{arith}
+use lib.ListN.{length-set}
+use borrow.Author.Rules.{rules}
+use Rattle.text_signed.specs.Number.{lifted_in}
+use Rattle.text_setting_rows.specs.Settings.{data_row}
+use Rattle.base_shared.proofs.Values.{none, one_more_lem, all_of}
+use Rattle.text_setting_rows.proofs.data_row.Goals as goal
+
+pub loop-i-init : goal.loop-i-init
+loop-i-init c = (omega arith, search rules, none (lifted_in c.args.s))
+
+pub loop-i-preserved : goal.loop-i-preserved
+loop-i-preserved c =
+    let zz : ⊥ = c.well_formed in
+    let l = c.loop-i in
+    (omega arith, rw length-set l.invariant.1, one_more_lem (lifted_in c.args.s) l.out l.i _ c.lift.ensures (omega arith) l.invariant.2)
+
+pub returns : goal.returns
+unfolding data_row
+returns c =
+    let l = c.loop-i in
+    let e : l.i ≡ 32 = omega arith in
+    all_of (lifted_in c.args.s) l.out l.i 32 e l.invariant.1 l.invariant.2
