@@ -1,6 +1,7 @@
 // Reads a field of at most 31 bits, high bit first, at any bit of a slice; and the answers that every reader above
 // shares.
 #![tactic(auto)]
+
 ghost use Rattle.std.specs.Prelude.{◌+◌, ◌*◌, ◌≤◌, ◌≡◌, length};
 ghost use Rattle.base_bits.specs.Bit.{number};
 ghost use Rattle.base_bits.specs.Read.{read_bits, read_bits_if};

@@ -3,31 +3,27 @@
 use Prim.Native.Nat.{ℕ, ◌+◌, ◌≤◌, ◌<◌, ◌^◌}
 use mathlib.Core.Path.{◌≡◌, refl, sym, ◌∙◌}
 use mathlib.Core.Bool.{Bool, true, false}
-use mathlib.Core.List.{List, [], ◌∷◌}
-use mathlib.Core.Logic.{⊎_elim}
+use mathlib.Core.List.{List}
 use native.Mathlib.Omega.{arith}
 use lib.Dec.{T, leb, eqb, leb→le}
 use borrow.Author.Tests.{le-leb, lt-leb, eq-eqb, ne_eqb}
 use mir.Val.{Fits}
 use mir.Syntax.{w32}
 use Rattle.base_shared.proofs.Other.{NotTwo}
-use denote.Enum.Declared.{tag_of}
 use Rattle.base_bits.specs.declared.Bits.{Bits}
 use Rattle.base_bits.specs.declared.Bits.TheVariants.{Value, Short}
 use Rattle.base_bits.specs.declared.Cursor.{Cursor}
 use Rattle.base_bits.specs.declared.Next.{Next}
 use Rattle.base_bits.specs.declared.Next.TheVariants.{At, Refused}
 use Rattle.base_bits.specs.declared.Refusal.{Refusal}
-use Rattle.base_bits.specs.declared.Refusal.TheVariants.{PastEnd}
 use Rattle.base_bits.specs.Bit.{number, fits}
-use Rattle.base_bits.specs.Refusal.{Mark, mark_refusal, Name, the}
+use Rattle.base_bits.specs.Refusal.{Mark, Name, the}
 use Rattle.base_syntax.specs.Fault.{Reason, cut_at, wrong_at}
 use Rattle.base_bits.specs.Read.{read_bits, read_bits_if}
 use Rattle.base_syntax.specs.Reader.{Told, Got, Read, read, stopped, got, refused, bind, tell, alter, view_next, Reader, field, must, field_if, group_if}
 use Rattle.base_shared.specs.Choice.{pick}
 use lib.Pow.{pow_pos}
 use Rattle.base_syntax.proofs.Laws.{field_reads, field_got, field_cut}
-use Rattle.base_bits.specs.contracts.Bits.{the_type}
 
 -- two outcomes are not the same
 same_got : {E A X : Type 0} {a : A} {p : ℕ} {e : E} → got a p ≡ refused e → X

@@ -1,6 +1,6 @@
 -- Readings: what stands at a place of the bytes, as a definition that the code is proved equal to.
 -- Assumes nothing.
-use Rattle.std.specs.Prelude.{ℕ, ◌+◌, Bool, true, false, List, eqb}
+use Rattle.std.specs.Prelude.{ℕ, ◌+◌, Bool, List, eqb}
 use Rattle.base_bits.specs.declared.Next.{Next}
 use Rattle.base_bits.specs.declared.Next.TheVariants.{At, Refused}
 use Rattle.base_bits.specs.declared.Refusal.{Refusal}

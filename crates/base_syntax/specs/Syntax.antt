@@ -1,6 +1,6 @@
 -- Fields with a name, a width and a number, and the bits that they spell.
 -- Assumes nothing.
-use Rattle.std.specs.Prelude.{ℕ, ◌+◌, ◌<◌, ◌^◌, ◌≡◌, Bool, true, false, List, [], ◌∷◌, ◌++◌, eqb}
+use Rattle.std.specs.Prelude.{ℕ, ◌+◌, ◌<◌, ◌^◌, ◌≡◌, Bool, List, [], ◌∷◌, ◌++◌, eqb}
 use Rattle.base_bits.specs.Bit.{spell}
 use Rattle.base_bits.specs.Refusal.{Mark, Name}
 use Rattle.base_shared.specs.Choice.{pick}

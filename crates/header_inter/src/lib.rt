@@ -1,5 +1,6 @@
 // The picture of an inter frame.
 #![tactic(auto)]
+
 ghost use Rattle.std.specs.Prelude.{◌≡◌};
 ghost use Rattle.base_syntax.specs.Reader.{over};
 ghost use Rattle.header_picture.specs.Picture.{view_picture};

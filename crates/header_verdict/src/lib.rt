@@ -1,5 +1,6 @@
 // What is said of a header, accepted or a refusal, and of a frame by where it lies.
 #![tactic(auto)]
+
 ghost use Rattle.std.specs.Prelude.{◌≡◌};
 ghost use Rattle.header_verdict.specs.Verdict.{verdict_number, place_number, place_frame};
 

@@ -130,8 +130,8 @@ pub struct LoopFilterRead {
 
 // What stands where loop_filter_delta_enabled is 1.
 pub fn parse_loop_deltas(s: &[u8], c: Cursor, old: LoopFilterParams) -> LoopFilterRead
-    ensures result_value { view_loop_filter result ≡ over (loop_deltas_of old) (read_loop_deltas s.now c.at) }
-    ensures lf_value { (e : Refusal) → result.next ≡ Next.Refused e → result.lf ≡ old }
+    ensures answer { view_loop_filter result ≡ over (loop_deltas_of old) (read_loop_deltas s.now c.at) }
+    ensures kept { (e : Refusal) → result.next ≡ Next.Refused e → result.lf ≡ old }
 {
     let short = LoopFilterRead {
         lf: old,

@@ -11,8 +11,8 @@ use base_loop_filter::LoopFilterParams;
 use part_loop_deltas::LoopFilterRead;
 
 pub fn parse_loop_filter_params(s: &[u8], c: Cursor, old: LoopFilterParams) -> LoopFilterRead
-    ensures result_value { view_loop_filter result ≡ over (loop_filter_of false old) (read_loop_filter s.now c.at) }
-    ensures lf_value { (e : Refusal) → result.next ≡ Next.Refused e → result.lf ≡ old }
+    ensures answer { view_loop_filter result ≡ over (loop_filter_of false old) (read_loop_filter s.now c.at) }
+    ensures kept { (e : Refusal) → result.next ≡ Next.Refused e → result.lf ≡ old }
 {
     let short = LoopFilterRead {
         lf: old,

@@ -3,13 +3,12 @@
 use Prim.Native.Nat.{ℕ, ◌+◌, ◌-◌, ◌≤◌, ◌<◌, ◌^◌}
 use mathlib.Core.Path.{◌≡◌, ap, ◌∙◌, refl}
 use mathlib.Core.Bool.{Bool}
-use mathlib.Core.List.{List, [], ◌∷◌}
+use mathlib.Core.List.{List}
 use native.Mathlib.Omega.{arith}
 use lib.Dec.{T, leb, leb→le}
 use mir.Val.{Fits, bits}
 use mir.Syntax.{Width, w8}
 use Rattle.base_shared.proofs.Other.{NotTwo}
-use denote.Enum.Declared.{tag_of}
 use Rattle.base_bits.specs.declared.Bits.{Bits}
 use Rattle.base_bits.specs.declared.Bits.TheVariants.{Value}
 use Rattle.base_bits.specs.declared.Cursor.{Cursor}
@@ -25,7 +24,6 @@ use Rattle.part_tiles.specs.declared.CountRead.TheVariants.{Value as Count, Shor
 use Rattle.grammar_tables.specs.Tables.{superblocks, least, most, span}
 use Rattle.part_tiles.specs.Tiles.{cols_of, tiles_of, view_count}
 use Rattle.grammar_tables.proofs.Limits.{least_most, most_le}
-use Rattle.part_tiles.specs.contracts.CountRead.{the_type}
 
 -- a count that was read, and one that wasn't
 counted : (m : Read ℕ) (k p : ℕ) → got k p ≡ over (λ a. a) m → m ≡ read k p

@@ -2,10 +2,8 @@
 -- Assumes nothing.
 use Prim.Native.Nat.{ℕ}
 use mathlib.Core.Path.{◌≡◌, refl}
-use mathlib.Core.List.{List, [], ◌∷◌}
-use native.Mathlib.Omega.{arith}
+use mathlib.Core.List.{List}
 use Rattle.base_shared.proofs.Other.{NotTwo}
-use denote.Enum.Declared.{tag_of}
 use Rattle.base_bits.specs.declared.Cursor.{Cursor}
 use Rattle.base_bits.specs.declared.Refusal.TheVariants.{PastEnd}
 use Rattle.base_syntax.specs.Reader.{Got, Read, refused, bind, over, said}
@@ -18,8 +16,6 @@ use Rattle.part_tiles.specs.declared.CountRead.TheVariants.{Value as Count}
 use Rattle.part_tiles.specs.Tiles.{cols_of, tiles_of, view_tiles, view_count}
 use Rattle.grammar_tables.specs.Tables.{TilesValues}
 use Rattle.grammar_tables.specs.Reading.{read_cols, read_tiles}
-use Rattle.part_tiles.specs.contracts.TilesRead.{the_type}
-use Rattle.part_tiles.specs.contracts.CountRead.{the_type as the-count}
 use Rattle.part_tiles.proofs.Records.{no_count}
 
 no_tiles_lem : {x : Got Tiles} (r : TilesRead) → view_tiles r ≡ x → NotTwo Value r → refused PastEnd ≡ x

@@ -1,5 +1,6 @@
 // The tiles of a frame: tile_info() of VP9.
 #![tactic(auto)]
+
 ghost use Rattle.std.specs.Prelude.{◌≡◌};
 ghost use Rattle.base_syntax.specs.Reader.{over};
 ghost use Rattle.grammar_tables.specs.Reading.{read_run, read_cols, read_tiles};

@@ -1,5 +1,4 @@
 use Rattle.base_bits.proofs.Number.{there_read, not_there}
-use borrow.Author.Rules.{rules}
 use Rattle.base_bits.proofs.read_bits_if.Goals as goal
 
 pub returns-then-there : goal.returns-then-there

@@ -1,11 +1,6 @@
-use Prim.Native.Nat.{◌+◌, ◌*◌, ◌≤◌, ◌-◌}
-use mathlib.Core.Path.{◌≡◌, refl, ◌∙◌}
-use native.Mathlib.Omega.{arith}
-use borrow.Author.Rules.{rules}
-use mir.Facts.{Fits-widen}
+use Prim.Native.Nat.{◌*◌, ◌≤◌}
+use mathlib.Core.Path.{◌≡◌}
 use Rattle.base_bits.specs.Bit.{number}
-use Rattle.base_bits.proofs.Number.{number_under}
-use Rattle.base_bits.proofs.Gather.{one_byte_more}
 use Rattle.base_bits.proofs.whole_bytes.Given as goal
 
 abbrev pub invariant-loop-k : goal.invariant-loop-k

@@ -1,0 +1,11 @@
+use Prim.Native.Nat.{◌-◌}
+use borrow.Author.Rules.{rules}
+use Rattle.part_coded.proofs.Run.{Counted, counted_none, counted_more, counted_end, counted_short}
+use Rattle.part_size_with_refs.proofs.WithRefs.{all_counted, found_run}
+use Rattle.part_size_with_refs.proofs.find_ref.Given as goal
+
+abbrev pub invariant-loop-i : goal.invariant-loop-i
+invariant-loop-i l = Counted "found_ref" 0 3 l.s l.initial.at.at l.i l.at.at
+
+abbrev pub decreases-loop-i : goal.decreases-loop-i
+decreases-loop-i l = 3 - l.i

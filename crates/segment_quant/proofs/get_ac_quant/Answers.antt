@@ -1,0 +1,16 @@
+use mathlib.Core.Path.{◌∙◌}
+use borrow.Author.Rules.{rules}
+use mir.Syntax.{w8, w16}
+use Rattle.segment_clamp.proofs.Casts.{given}
+use Rattle.segment_quant.specs.Quant.{ac_quant}
+use Rattle.segment_quant.proofs.Same.{same_scale}
+use Rattle.segment_quant.proofs.get_ac_quant.Goals as goal
+
+pub returns : goal.returns
+unfolding ac_quant
+returns c =
+    let delta = c.ac_delta in
+    let b = c.get_qindex in
+    let table = c.ac_table-table in
+    given w16 c.scale_at.type_inv
+    (c.scale_at.ensures ∙ same_scale table.ensures b.ensures (given w8 delta.type_inv delta.ensures))
