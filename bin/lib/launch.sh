@@ -118,21 +118,22 @@ find_kit() {
     [ -x "$rt" ] || fail "Rattle's kit is missing: put its command rt on the PATH"
     kit=$(readlink -f "$rt")
     kit=${RATTLE_HOME:-${kit%/*/*}}
-    tools=$kit/on/$(uname -m)/toolchain
+    tools=$kit/toolchain
     loader=$tools/lib/ld-linux-x86-64.so.2
     [ -x "$loader" ] || fail "the kit has no $loader: let RATTLE_HOME name the kit's folder"
 }
 
 # A folder that VP9_READER_PROGRAMS names is taken as it is; else the program is the proved one.
 find_program() {
-    program=${VP9_READER_PROGRAMS:-$target/bin}/$1
+    program=$root/crates/$1/out/$1
     if [ -n "${VP9_READER_PROGRAMS:-}" ]; then
+        program=$VP9_READER_PROGRAMS/$1
         [ -x "$program" ] || fail "no program $program: VP9_READER_PROGRAMS names the folder of the programs"
         return
     fi
     [ -r "$root/crates.txt" ] || fail "no $root/crates.txt: bin/$name works in its repository, or by a link to it"
     reach "$1"
-    is_built "$1" || build "$1"
+    is_built || build "$1"
 }
 
 # The crates that a program reaches by crates.txt, and itself.
@@ -157,9 +158,9 @@ add_crates() {
     done
 }
 
-# rt leaves the stamp once the program is proved and has run well.
+# rt leaves the stamp once the program is proved.
 is_built() {
-    [ -x "$program" ] && [ -f "$target/stamp/$1" ] && [ -z "$(newer_sources)" ]
+    [ -x "$program" ] && [ -f "$program.stamp" ] && [ -z "$(newer_sources)" ]
 }
 
 newer_sources() {
@@ -279,7 +280,7 @@ build() {
 built programs"
     take_lock
     # Another launch may have built it meanwhile.
-    is_built "$1" || rebuild "$1"
+    is_built || rebuild "$1"
     drop_lock
 }
 
@@ -291,18 +292,27 @@ rebuild() {
     # What is changed from here on is newer than the program.
     touch "$target/build.begun"
     # rt wouldn't link it again.
-    [ -x "$program" ] || rm -f "$target/stamp/$1"
+    [ -x "$program" ] || rm -f "$program.stamp"
     own=$(command -v setsid) || own=''
-    (cd "$root" && exec ${own:+"$own"} "$rt" check "$1") >> "$log" 2>&1 3<&- &
+    # It runs the program too, on nothing.
+    (cd "$root/crates/$1" && exec ${own:+"$own"} "$rt" run) >> "$log" 2>&1 < /dev/null 3<&- &
     attend far_built
-    [ "$ended" -eq 0 ] || fail "the build failed: see $log"
+    if [ "$ended" -ne 0 ]; then
+        rm -f "$program.stamp"
+        fail "the build failed: see $log"
+    fi
     [ -x "$program" ] || fail "the build left no program: remove $target and try again"
     touch -r "$target/build.begun" "$program"
 }
 
+# rt leaves a stamp for each library that is proved.
 far_built() {
     read -r total _ < "$log" || return
-    echo "proving and building: $(grep -c '^rt: [a-z0-9_]* proved (' "$log") of $total crates"
+    proved=0
+    for crate in $crates; do
+        [ ! -f "$root/crates/$crate/out/rlib/stamp" ] || proved=$((proved + 1))
+    done
+    echo "proving and building: $proved of $total crates"
 }
 
 take_lock() {

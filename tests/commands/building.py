@@ -39,14 +39,14 @@ def builds(scratch, calls, said, given=b"data\n", **other):
 
 @case
 def the_first_launch(scratch):
-    builds(scratch, ["check tool_list"], START)
+    builds(scratch, ["run tool_list"], START)
 
 
 @case
 def built_once(scratch):
     older_sources(scratch)
-    builds(scratch, ["check tool_list"], START)
-    builds(scratch, ["check tool_list"], "")
+    builds(scratch, ["run tool_list"], START)
+    builds(scratch, ["run tool_list"], "")
 
 
 @case
@@ -58,18 +58,18 @@ def the_long_form(scratch):
 @case
 def a_newer_source(scratch):
     scratch.build()
-    older(scratch.target("bin", "tool_list"))
+    older(scratch.program())
     older_sources(scratch)
     write(scratch.source("base_bits"), "changed")
-    builds(scratch, ["check tool_list"], START)
-    builds(scratch, ["check tool_list"], "")
+    builds(scratch, ["run tool_list"], START)
+    builds(scratch, ["run tool_list"], "")
 
 
 @case
 def a_newer_source_of_another(scratch):
     older_sources(scratch)
     scratch.build()
-    older(scratch.target("bin", "tool_list"), 5)
+    older(scratch.program(), 5)
     write(scratch.source("test_tables"), "changed")
     builds(scratch, [], "")
 
@@ -77,19 +77,19 @@ def a_newer_source_of_another(scratch):
 @case
 def a_source_that_changes_meanwhile(scratch):
     """What was changed during a build isn't in the program."""
-    scratch.make_rt(proving="sleep 0.1; touch crates/base_bits/src/lib.rt")
-    builds(scratch, ["check tool_list"], START)
+    scratch.make_rt(proving="sleep 0.1; touch ../base_bits/src/lib.rt")
+    builds(scratch, ["run tool_list"], START)
     scratch.make_rt()
-    builds(scratch, ["check tool_list"] * 2, START)
+    builds(scratch, ["run tool_list"] * 2, START)
 
 
 @case
 def a_program_that_was_removed(scratch):
     """rt links no program whose stamp is there."""
     scratch.build()
-    os.remove(scratch.target("bin", "tool_list"))
-    scratch.make_rt(proving='[ ! -f "target/stamp/$2" ] || exit 0')
-    builds(scratch, ["check tool_list"], START)
+    os.remove(scratch.program())
+    scratch.make_rt(proving='[ ! -f "out/$name.stamp" ] || exit 0')
+    builds(scratch, ["run tool_list"], START)
 
 
 @case
@@ -112,7 +112,7 @@ def a_common_name_changes_nothing(scratch):
 
 @case
 def a_line_on_a_terminal(scratch):
-    proved = "echo 'rt: text_listing proved (unchanged since it was last proved)'"
+    proved = "proved text_listing"
     scratch.make_rt(proving=f"{scratch.waits('first')}\n{proved}\n{scratch.waits()}")
 
     def meanwhile(terminal):
@@ -137,12 +137,12 @@ def nothing_on_a_terminal_where_it_is_quick(scratch):
 
 @case
 def a_build_that_fails(scratch):
-    scratch.make_rt(proving='echo "rt: $2 NOT PROVED (exit 1, 3 s)"; exit 1')
+    scratch.make_rt(proving='echo "logic=not-proved"; exit 1')
     for _ in range(2):
         hold(scratch.list(), 2, "", f"{START}\nbin/list: the build failed: see {scratch.target('build.log')}")
-    same("calls of rt", ["check tool_list"] * 2, scratch.calls())
+    same("calls of rt", ["run tool_list"] * 2, scratch.calls())
     with open(scratch.target("build.log")) as file:
-        if "rt: tool_list NOT PROVED (exit 1, 3 s)\n" not in (said := file.read()):
+        if "logic=not-proved\n" not in (said := file.read()):
             raise Wrong(f"want rt's words in the log, got {said!r}")
 
 
@@ -163,7 +163,7 @@ def a_program_that_ran_badly(scratch):
     scratch.make_rt(running="exit 1")
     for calls in (1, 2):
         hold(scratch.list(), 2, "", f"{START}\nbin/list: the build failed: see {scratch.target('build.log')}")
-        same("calls of rt", ["check tool_list"] * calls, scratch.calls())
+        same("calls of rt", ["run tool_list"] * calls, scratch.calls())
 
 
 @case
@@ -175,7 +175,7 @@ def a_build_without_a_program(scratch):
 
 @case
 def no_kit(scratch):
-    loader = f"/nonexistent/on/{os.uname().machine}/toolchain/lib/ld-linux-x86-64.so.2"
+    loader = "/nonexistent/toolchain/lib/ld-linux-x86-64.so.2"
     said = f"bin/list: the kit has no {loader}: let RATTLE_HOME name the kit's folder"
     hold(scratch.list(env={"RATTLE_HOME": "/nonexistent"}), 2, "", said)
 
@@ -247,7 +247,7 @@ def both_list(scratch, first, second):
     for one in (first, second):
         out, said = one.communicate(timeout=PATIENCE)
         hold(Done(one.returncode, out.decode(), said.decode()), 0, LISTED, "")
-    same("calls of rt", ["check tool_list"], scratch.calls())
+    same("calls of rt", ["run tool_list"], scratch.calls())
     same("locks left", False, os.path.lexists(scratch.target("build.lock.held")))
 
 
@@ -279,7 +279,7 @@ def a_lock_that_was_left_behind(scratch):
     """Its owner was killed: no process has such a number."""
     os.makedirs(scratch.target())
     os.symlink("4194305", scratch.target("build.lock.held"))
-    builds(scratch, ["check tool_list"], START, env={"PATH": path_without(scratch, "flock")})
+    builds(scratch, ["run tool_list"], START, env={"PATH": path_without(scratch, "flock")})
 
 
 # Ended meanwhile.
@@ -296,7 +296,7 @@ def ends_a_build(scratch, status, end):
     terminal.close()
     same("what is left to be seen", "", screen(terminal.shown.decode()))
     scratch.make_rt()
-    builds(scratch, ["check tool_list"] * 2, START)
+    builds(scratch, ["run tool_list"] * 2, START)
 
 
 @case
@@ -329,4 +329,4 @@ def ends_waiting(scratch):
     os.write(terminal.master, b"\x03")
     same("status", 130, second.wait(PATIENCE))
     terminal.close()
-    same("calls of rt", ["check tool_list"], scratch.calls())
+    same("calls of rt", ["run tool_list"], scratch.calls())

@@ -58,7 +58,7 @@ def named(crate, needs):
                 with open(os.path.join(folder, file), encoding="utf-8") as lines:
                     for line in lines:
                         code = re.split(r"//|--", line)[0]
-                        found.update(re.findall(r"Rattle·([a-z_]+)[.·]|\b([a-z_]+)::", code))
+                        found.update(re.findall(r"Rattle\.([a-z_]+)\.|\b([a-z_]+)::", code))
     return {name for pair in found for name in pair if name in needs and name != crate}
 
 

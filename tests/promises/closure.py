@@ -15,7 +15,9 @@ WORDS = re.compile(r"-- (spelling|record|refusals|reading|the code's answer|numb
 KIT = "the kit"
 # What the language itself has, and what a promise may say.
 LANGUAGE = set("Type → × Unit ⊥ tt λ let in record do ← = : where _ . ⌜ ⌝ requires ensures".split())
-PROMISE = {"now", "self"}
+PROMISE = {"result", "self"}
+# The fields of a reference.
+REFERENCE = {"now", "old", "new", "entry", "exit", "ref_ptr"}
 RUST = set("pub mut self usize isize bool true false u8 u16 u32 u64 i8 i16 i32 i64".split())
 
 TOKEN = re.compile(r'"(?:\\.|[^"\\])*"|--.*|[(){};,]|(?:(?<=\s)|(?<=[({]))\.[^\s(){};,.]+|[^\s(){};,"]+')
@@ -167,6 +169,8 @@ def read_code(file, lines):
         elif re.match(r"(pub |ghost )*use ", bare):
             file.uses.append(bare)
             waiting = []
+        elif bare.startswith("#"):
+            continue
         elif bare.startswith("impl"):
             outer, waiting = [line], []
         elif line == "}":
@@ -307,6 +311,10 @@ class Named:
 
     def take(self, scope, tokens, local, known=()):
         names, fields = sort_out(tokens)
+        for name in [name for name in names if "." in name and meaning(scope, name) is None]:
+            first, *rest = name.split(".")
+            names = names - {name} | {first}
+            fields = fields | {field.strip("«»") for field in rest if not is_number(field)}
         self.fields |= fields
         for name in names - local - set(known):
             self.look_up(scope, name)
@@ -394,7 +402,7 @@ def is_pattern(scope, name):
 
 def parts(name):
     """A name as it stands in a text: an operator's without its places."""
-    return {name} | {part for part in name.split("_") if part and name.strip("_") != name}
+    return {name} | {part for part in name.split("◌") if part and name.strip("◌") != name}
 
 
 def code_mentions(definition, named):
@@ -402,9 +410,9 @@ def code_mentions(definition, named):
     text = "\n".join(line for line in definition.code if not is_comment(line))
     text, promise = re.match(r"(.*?)((?:\n\s*(?:requires|ensures)\b.*)?)$", text, re.S).groups()
     local = set(re.findall(r"(\w+):", text)) | {f"«{name}»" for name in re.findall(r"(\w+):", text)}
+    promise = re.sub(r"\b(requires|ensures) \w+ \{", r"\1 {", promise)
     tokens = [token for token in TOKEN.findall(promise) if not token.startswith('"')]
     named.take(definition.file.scope, tokens, local | bound(tokens) | PROMISE)
-    named.fields -= {"entry", "exit"}
     text = re.sub(r"'\w+", "", re.sub(r"(\w+):(?!:)", "", re.sub(r"\b(fn|struct|enum|type|const) \w+", "", text)))
     own = definition.name.split("::")[0]
     named.keys |= look_up_path(definition.file, [own]) if definition.outer else set()
@@ -416,6 +424,13 @@ def code_mentions(definition, named):
         named.names.add(steps[0])
         named.keys |= keys
         named.unknown |= set() if keys else {path}
+
+
+def taken(line):
+    """The crate or module, and the name, of each item that a `use` line of code brings in."""
+    found = re.match(r"(?:pub )?use (\w+)::(?:(\w+)|\{(.*)\});", line)
+    for name in re.findall(r"\w+", found.group(2) or found.group(3)) if found else []:
+        yield found.group(1), name
 
 
 def look_up_path(file, steps):
@@ -468,10 +483,9 @@ class World:
         """The types and constants that a file of src/ brings in."""
         names = {}
         for line in file.uses:
-            found = re.match(r"(?:pub )?use (\w+)::(\w+);", line)
-            if found:
-                home = self.crates.get(found.group(1), self.crates[file.crate])
-                names.update({found.group(2): home[found.group(2)]} if found.group(2) in home else {})
+            for crate, name in taken(line):
+                home = self.crates.get(crate, self.crates[file.crate])
+                names.update({name: home[name]} if name in home else {})
         return names
 
     def known(self, file):
@@ -512,14 +526,14 @@ class World:
 
     def offered_by(self, path):
         """What a path of a `use` line has to offer, or None where it is the kit's."""
-        found = re.match(r"Rattle·(\w+)(?:·\w+)?\.(specs|proofs)\.(.*)", path)
-        if not found:
+        found = re.match(r"Rattle\.(\w+)\.(specs|proofs)\.(.*)", path)
+        if not found or found.group(1) not in self.crates:
             return None
         crate, part, module = found.groups()
         if not module.startswith("declared."):
             return self.offered(f"{crate}/{part}/{module}")
         steps = module.split(".")[1:]
-        variants = steps[-1] == "the-variants"
+        variants = steps[-1] == "TheVariants"
         steps = steps[:-1] if variants else steps
         key = f"{crate}/src/{'/'.join(steps[:-1]) or 'lib'}.{steps[-1]}"
         if key not in self.definitions:
@@ -585,7 +599,7 @@ class Reached:
 
     def lost_fields(self):
         """Fields that no type among the reached has: then a type would be missing."""
-        known = {field for key in self.whole if key in self.world.definitions
-                 for field in self.world.definitions[key].fields}
+        known = REFERENCE | {field for key in self.whole if key in self.world.definitions
+                             for field in self.world.definitions[key].fields}
         return [f"{key} names the field {field}, which nothing reached has"
                 for field, key in sorted(self.fields.items()) if field not in known]

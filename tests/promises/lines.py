@@ -24,7 +24,7 @@ import os
 import re
 import sys
 
-from closure import KIT, ROOT, Reached, World, is_comment, lost_lines, mentions, parts
+from closure import KIT, ROOT, Reached, World, is_comment, lost_lines, mentions, parts, taken
 
 PROVED = ("reading", "the code's answer")
 TOLD = "-- what it answers is said by theorems: see `promised` below"
@@ -32,13 +32,13 @@ TOLD = "-- what it answers is said by theorems: see `promised` below"
 # Definitions that theorems tie to others: who reads these statements needs no more of such a definition than its type.
 TIED = {
     "header_parser/specs/Answer.parsed":
-        "header_parser/proofs/Theorems.demanded header_parser/proofs/Theorems.no-other",
-    "chunk_frame/specs/Place.framePlaced":
-        "chunk_frame/proofs/Theorems.demanded chunk_frame/proofs/Theorems.no-other",
-    "chunk_parser/specs/Answer.chunkOf":
-        "chunk_parser/proofs/Theorems.demanded chunk_parser/proofs/Theorems.no-other",
-    "segment_records/specs/Segmentation.segmentOf":
-        "segment_records/proofs/Vp9.each-segment-is segment_records/proofs/Vp9.one-after",
+        "header_parser/proofs/Theorems.demanded header_parser/proofs/Theorems.no_other",
+    "chunk_frame/specs/Place.frame_placed":
+        "chunk_frame/proofs/Theorems.demanded chunk_frame/proofs/Theorems.no_other",
+    "chunk_parser/specs/Answer.chunk_of":
+        "chunk_parser/proofs/Theorems.demanded chunk_parser/proofs/Theorems.no_other",
+    "segment_records/specs/Segmentation.segment_of":
+        "segment_records/proofs/Vp9.each_segment_is segment_records/proofs/Vp9.one_after",
 }
 
 # What is said of a header, in the order of reading, with what a file is for down to its first such comment.
@@ -93,10 +93,10 @@ PARTS = {
         [("", "base_shared/* base_enums/* base_segmentation/* segment_*/*")]),
     "ivf": Part(
         {"": "IVF files"},
-        "ivf_file/src/lib.parse_ivf_header ivf_file/specs/File.fileNumber ivf_file/src/lib.read_record "
-        "ivf_file/specs/Record.recordNumber ivf_file/src/lib.record_length ivf_reader/src/lib.RecordReader::* "
-        "ivf_arriving/src/lib.next_record ivf_arriving/specs/Next.nextNumber ivf_file/specs/File.fileFrame "
-        "ivf_file/specs/Records.recordsOf ivf_reader/specs/Yields.yields ivf_reader/specs/Yields.allInTurn",
+        "ivf_file/src/lib.parse_ivf_header ivf_file/specs/File.file_number ivf_file/src/lib.read_record "
+        "ivf_file/specs/Record.record_number ivf_file/src/lib.record_length ivf_reader/src/lib.RecordReader::* "
+        "ivf_arriving/src/lib.next_record ivf_arriving/specs/Next.next_number ivf_file/specs/File.file_frame "
+        "ivf_file/specs/Records.records_of ivf_reader/specs/Yields.yields ivf_reader/specs/Yields.all_in_turn",
         [("", "base_shared/* base_little/* ivf_*/*")]),
     "listing": Part(
         {"": "the listing"},
@@ -104,18 +104,21 @@ PARTS = {
         [("", "base_shared/* base_bytes/* ivf_file/specs/Records ivf_walk/specs/Said text_*/* listing_file/specs/*")]),
     "long": Part(
         {"": "what the long form prints"},
-        "listing_items/specs/Items.longForm listing_items/specs/Items.itemLine",
+        "listing_items/specs/Items.long_form listing_items/specs/Items.item_line",
         [("", "listing_items/specs/*")]),
     "lister": Part(
         {"": "how a lister is fed, and what it wants"},
-        "listing_lister/src/lib.Lister::new listing_lister/src/lib.feed listing_lister/specs/Arrival.putOut "
+        "listing_lister/src/lib.Lister::new listing_lister/src/lib.feed listing_lister/specs/Arrival.put_out "
         "listing_lister/specs/Arrival.joined",
         [("", "base_shared/* base_bytes/* ivf_*/* listing_lister/*")]),
 }
+# base_arrival says of any machine what listing_lister says of its own, under the same names.
+GENERAL = {"base_arrival/specs/Arrival", "listing_lister/specs/Arrival"}
+
 PROMISES = "the promises of these functions, and the theorems' statements"
 
 # A field that is declared, given a value, or spelled: a line for each.
-ONE_FIELD = re.compile(r"\s+(?:pub \S+ : |pub \w+: |[\w«»-]+ = .*;$|(?:(?:∷|then) )?\w+ .*\(v \.)")
+ONE_FIELD = re.compile(r"\s+(?:pub \S+ : |pub \w+: |[\w«»-]+ = .*;$|(?:(?:∷|then) )?\w+ .*(?<!= )\bv\.\w)")
 FIELDS_SAID = "Of the %d lines of the first two, %d name one field each"
 FIELDS = re.compile(FIELDS_SAID.replace(" ", r"\s+").replace("%d", r"(\d+)"))
 
@@ -189,14 +192,13 @@ class Imports:
 
     def used(self, line, names):
         """The names among these that an import brings in."""
-        code = re.match(r"(?:pub )?use \w+::(\w+);", line)
-        brought = [code.group(1)] if code else [name for name, _ in self.world.brought_in(line)]
+        brought = [name for _, name in taken(line)] or [name for name, _ in self.world.brought_in(line)]
         return [name for name in brought if any(is_used(part, names) for part in parts(name))]
 
     def is_doubtful(self, line, name):
         if re.search(r" as %s\b" % re.escape(name.split(".")[0]), line):
             return True
-        from_kit = "Rattle·" not in line and "::" not in line
+        from_kit = self.world.offered_by(path_of(line).partition("use ")[2]) is None and "::" not in line
         usual = [path for path, _ in self.kit[name].most_common(1)] == [path_of(line)]
         return bool(self.homes[name]) or not usual if from_kit else len(self.homes[name]) > 1
 
@@ -353,9 +355,10 @@ def doubled(world):
     """Names that two definitions of specs/ have."""
     keys = collections.defaultdict(list)
     for each in (each for file in world.files.values() for each in file.definitions if "/specs/" in file.key):
-        keys[each.name].append(each.key)
-    return [f"{name} has {len(found)} definitions: {', '.join(found)}"
-            for name, found in sorted(keys.items()) if len(found) > 1]
+        keys[each.name].append(each)
+    return [f"{name} has {len(found)} definitions: {', '.join(each.key for each in found)}"
+            for name, found in sorted(keys.items())
+            if len(found) > 1 and {each.file.key for each in found} != GENERAL]
 
 
 def untied(world):

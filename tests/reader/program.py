@@ -1,7 +1,6 @@
 """Runs one of the programs, as `rt` does."""
 
 import os
-import platform
 import shutil
 import struct
 import subprocess
@@ -13,8 +12,8 @@ FRESH = b"\0"
 
 
 def built(name):
-    """The path of a program: in the folder that VP9_READER_PROGRAMS names, or where `rt check` puts the proved one."""
-    return os.path.join(os.environ.get("VP9_READER_PROGRAMS") or os.path.join(ROOT, "target", "bin"), name)
+    """The path of a program: in the folder that VP9_READER_PROGRAMS names, or where `rt run` puts the proved one."""
+    return os.path.join(os.environ.get("VP9_READER_PROGRAMS") or os.path.join(ROOT, "crates", name, "out"), name)
 
 
 def sized(chunk):
@@ -43,7 +42,7 @@ def kit_tools():
     """The folder of the kit's loader and emulator, found as `rt` finds it."""
     rt = shutil.which("rt") or "/opt/rattle/bin/rt"
     home = os.environ.get("RATTLE_HOME") or os.path.dirname(os.path.dirname(os.path.realpath(rt)))
-    return os.path.join(home, "on", platform.machine(), "toolchain")
+    return os.path.join(home, "toolchain")
 
 
 def command(program, tools, *words):
