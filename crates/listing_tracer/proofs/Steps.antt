@@ -5,15 +5,13 @@ use mathlib.Core.Path.{◌≡◌, refl, sym}
 use mathlib.Core.Bool.{Bool}
 use mathlib.Core.List.{List, [], ◌∷◌}
 use native.Mathlib.Omega.{arith}
-use types.Run.{OneOf, miss}
-use denote.Enum.Declared.{tag_of}
+use Rattle.base_shared.proofs.Other.{NotOne}
 use lib.ListN.{length, get_or, get_or-eq_default}
 use borrow.Author.Tests.{lt-ltb, le-ltb}
 use Rattle.chunk_answer.specs.declared.Answer.{Answer}
 use Rattle.chunk_answer.specs.declared.Answer.TheVariants as answer
 use Rattle.chunk_answer.specs.declared.ChunkRead.{ChunkRead}
 use Rattle.chunk_answer.specs.Answer.{chunk_number, chunk_frame}
-use Rattle.chunk_answer.specs.contracts.Answer as chunk
 use Rattle.ivf_walk.specs.declared.Turn.{Turn}
 use Rattle.ivf_walk.specs.Turn.{turn_of}
 use Rattle.listing_tracer.specs.declared.Tracer.{Tracer}
@@ -30,9 +28,9 @@ element (x ∷ l) (suc i) d e h = element l i d e (omega arith)
 pub past_eight : (l : List ℕ) (i : ℕ) → length l ≡ 8 → 8 ≤ i → 0 ≡ get_or l i 0
 past_eight l i e h = sym (get_or-eq_default l 0 (omega arith))
 
-pub other_answer : (t : Tracer) (u : Turn) (r : ChunkRead) (a : Answer) → OneOf (1 ∷ 2 ∷ 3 ∷ 4 ∷ []) (tag_of chunk.the_type a)
+pub other_answer : (t : Tracer) (u : Turn) (r : ChunkRead) (a : Answer) → NotOne answer.Frames a
     → refused_traced t u (chunk_number a) (chunk_frame a) ≡ chunk_traced t u r a
-other_answer t u r (answer.Frames n) h = absurd (miss (1 ∷ 2 ∷ 3 ∷ 4 ∷ []) 0 tt h)
+other_answer t u r (answer.Frames n) h = absurd (h n refl)
 other_answer t u r answer.Empty h = refl
 other_answer t u r answer.Short h = refl
 other_answer t u r (answer.Past i) h = refl

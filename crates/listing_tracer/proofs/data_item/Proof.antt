@@ -27,7 +27,7 @@ returns : tie.Need-returns
 returns c =
     let a = c.before.before.before.before.args in
     let z : 12 + a.n - 12 ≡ a.n = omega arith in
-    c.chunk_item_lem.ensures ∙ rw (c.before.parse-chunk.ensures, z)
+    c.chunk_item.ensures ∙ rw (c.before.parse-chunk.ensures, z)
 
 pub data-item-spec : {M : Type 1} → statement M
 data-item-spec =

@@ -1,7 +1,7 @@
 use Rattle.listing_lister.specs.Lister.{one_more}
 use borrow.Author.Rules.{rules}
-use Rattle.listing_tracer.proofs.one_more_lem.Statement.{statement}
-use Rattle.listing_tracer.proofs.one_more_lem.Tie as tie
+use Rattle.listing_tracer.proofs.one_more.Statement.{statement}
+use Rattle.listing_tracer.proofs.one_more.Tie as tie
 
 add-result : tie.Need-overflow-add-result
 add-result c = search rules

@@ -6,7 +6,7 @@ one-more-requires : tie.Need-one-more-requires
 one-more-requires c κs = search rules
 
 returns : tie.Need-returns
-returns c = rw c.one_more_lem.ensures
+returns c = rw c.one_more.ensures
 
 pub after-chunk-spec : {M : Type 1} → statement M
 after-chunk-spec = tie.close (tie.spec one-more-requires returns)

@@ -9,7 +9,7 @@ one-more-requires-2 : tie.Need-one-more-requires-2
 one-more-requires-2 c κs = search rules
 
 returns : tie.Need-returns
-returns c = rw (c.before.one_more_lem.ensures, c.one-more2.ensures)
+returns c = rw (c.before.one_more.ensures, c.one-more2.ensures)
 
 pub after-refused-spec : {M : Type 1} → statement M
 after-refused-spec = tie.close (tie.spec one-more-requires one-more-requires-2 returns)
