@@ -1,7 +1,6 @@
 use Rattle.part_traits.proofs.Steps.{traits_step, traits_stop, context_step, context_stop}
 use Rattle.header_lead.specs.Lead.{read_lead}
 use Rattle.header_lead.proofs.Steps.{resilient_as, shot_step, shot_stop, lead_read}
-use borrow.Author.Rules.{rules}
 use Rattle.header_lead.proofs.parse_lead.Goals as goal
 
 pub returns-in_default : goal.returns-in_default

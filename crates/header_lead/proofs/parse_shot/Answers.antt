@@ -1,5 +1,4 @@
 use Rattle.header_lead.proofs.Shots.{key_shot, no_kind_shot, intra_only_shot, inter_shot, kind_got, kind_short}
-use borrow.Author.Rules.{rules}
 use Rattle.header_lead.proofs.parse_shot.Goals as goal
 
 pub returns-then-traits : goal.returns-then-traits

@@ -1,5 +1,4 @@
 use Rattle.header_lead.proofs.Shots.{kind_read, kind_refused}
-use borrow.Author.Rules.{rules}
 use Rattle.header_lead.proofs.with_kind.Goals as goal
 
 pub returns-in-Refused : goal.returns-in-Refused
