@@ -1,4 +1,3 @@
-use borrow.Author.Rules.{rules}
 use Rattle.segment_records.specs.Once.{renewed}
 use Rattle.segment_records.proofs.renew.Goals as goal
 

@@ -1,12 +1,11 @@
-use mathlib.Core.Path.{◌≡◌, refl, sym, ◌∙◌}
-use Prim.Native.Nat.{◌-◌, ◌<◌, ◌≤◌}
+use mathlib.Core.Path.{refl, sym, ◌∙◌}
+use Prim.Native.Nat.{◌<◌, ◌≤◌}
 use native.Mathlib.Omega.{arith}
 use borrow.Author.Rules.{rules}
 use lib.ListN.{length, length-set}
-use Rattle.base_shared.specs.Lists.{each}
 use Rattle.segment_features.specs.Features.{features_of}
 use Rattle.segment_records.specs.Once.{segment_at}
-use Rattle.base_shared.proofs.Each.{done, each_step, each_end, length_mapped}
+use Rattle.base_shared.proofs.Each.{each_step, each_end, length_mapped}
 use Rattle.segment_records.proofs.renew_all.Goals as goal
 
 pub loop-i-init : goal.loop-i-init

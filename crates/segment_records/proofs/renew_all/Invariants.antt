@@ -1,12 +1,9 @@
-use mathlib.Core.Path.{◌≡◌, refl, sym, ◌∙◌}
-use Prim.Native.Nat.{◌-◌, ◌<◌, ◌≤◌}
-use native.Mathlib.Omega.{arith}
-use borrow.Author.Rules.{rules}
-use lib.ListN.{length, length-set}
+use mathlib.Core.Path.{◌≡◌}
+use Prim.Native.Nat.{◌≤◌}
+use lib.ListN.{length}
 use Rattle.base_shared.specs.Lists.{each}
-use Rattle.segment_features.specs.Features.{features_of}
 use Rattle.segment_records.specs.Once.{segment_at}
-use Rattle.base_shared.proofs.Each.{done, each_step, each_end, length_mapped}
+use Rattle.base_shared.proofs.Each.{done}
 use Rattle.segment_records.proofs.renew_all.Given as goal
 
 abbrev pub invariant-loop-i : goal.invariant-loop-i

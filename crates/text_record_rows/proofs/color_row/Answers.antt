@@ -1,6 +1,4 @@
-use mathlib.Core.Path.{refl}
 use Rattle.text_record_rows.specs.Records.{color_row}
-use borrow.Author.Rules.{rules}
 use Rattle.text_record_rows.proofs.color_row.Goals as goal
 
 pub returns : goal.returns

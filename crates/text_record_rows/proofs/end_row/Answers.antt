@@ -1,5 +1,4 @@
 use Rattle.text_record_rows.specs.Records.{end_row}
-use borrow.Author.Rules.{rules}
 use Rattle.text_record_rows.proofs.end_row.Goals as goal
 
 pub returns : goal.returns

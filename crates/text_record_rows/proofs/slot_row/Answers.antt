@@ -1,6 +1,5 @@
 use mathlib.Core.Path.{refl}
 use Rattle.text_record_rows.specs.Records.{slot_row}
-use borrow.Author.Rules.{rules}
 use Rattle.text_record_rows.proofs.slot_row.Goals as goal
 
 pub returns : goal.returns

@@ -1,4 +1,3 @@
-use borrow.Author.Rules.{rules}
 use Rattle.segment_records.proofs.Frame.{by_depth}
 use Rattle.segment_records.proofs.Segmentation.update_segmentation.Goals as goal
 
