@@ -2,6 +2,7 @@
 // and a number with a sign is a byte, 0 for plus, 1 for minus, else for the least number of its type, and its
 // magnitude, high byte first.
 #![tactic(auto)]
+
 ghost use Rattle.std.specs.Prelude.{◌≡◌};
 ghost use Rattle.test_values.specs.Values.{
   byte_at,

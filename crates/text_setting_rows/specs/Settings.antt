@@ -1,6 +1,6 @@
 -- The settings of a frame as rows.
 -- Assumes nothing.
-use Rattle.std.specs.Prelude.{ℕ, Bool, false, List, [], ◌∷◌, ℤ, pos, get_or}
+use Rattle.std.specs.Prelude.{ℕ, Bool, List, [], ◌∷◌, ℤ}
 use Rattle.base_loop_filter.specs.declared.LoopFilterParams.{LoopFilterParams}
 use Rattle.base_quantization.specs.declared.QuantizationParams.{QuantizationParams}
 use Rattle.base_segmentation.specs.declared.SegmentationParams.{SegmentationParams}

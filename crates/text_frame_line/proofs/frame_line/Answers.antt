@@ -1,6 +1,5 @@
 use Rattle.base_bytes.proofs.Append.{then}
 use Rattle.text_frame_line.proofs.Parts.{frame_parts}
-use borrow.Author.Rules.{rules}
 use Rattle.text_frame_line.proofs.frame_line.Goals as goal
 
 pub returns : goal.returns

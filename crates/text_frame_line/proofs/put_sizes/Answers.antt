@@ -1,5 +1,4 @@
 use Rattle.base_bytes.proofs.Append.{then}
-use borrow.Author.Rules.{rules}
 use Rattle.text_frame_line.proofs.put_sizes.Goals as goal
 
 pub returns : goal.returns

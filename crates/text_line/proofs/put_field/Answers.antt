@@ -1,5 +1,4 @@
 use Rattle.base_bytes.proofs.Append.{then}
-use borrow.Author.Rules.{rules}
 use Rattle.text_line.proofs.put_field.Goals as goal
 
 pub returns : goal.returns

@@ -1,5 +1,4 @@
 use Rattle.text_listing.proofs.Parts.{column_parts}
-use borrow.Author.Rules.{rules}
 use Rattle.text_listing.proofs.column_line.Goals as goal
 
 pub returns : goal.returns

@@ -1,6 +1,5 @@
 use Rattle.base_bytes.proofs.Append.{then}
 use Rattle.text_listing.proofs.Parts.{refused_parts}
-use borrow.Author.Rules.{rules}
 use Rattle.text_listing.proofs.refused_line.Goals as goal
 
 pub returns : goal.returns

@@ -1,6 +1,10 @@
 use mathlib.Core.Path.{◌≡◌}
 use native.Mathlib.Omega.{arith}
-use lib.ListN.{length-set}
+use lib.IntN.{pos}
+use lib.ListN.{get_or, length-set}
+use mir.Syntax.{w16}
+use mir.Val.{SFits}
+use Rattle.text_signed.proofs.Lifted.{lifts}
 use borrow.Author.Rules.{rules}
 use Rattle.text_signed.specs.Number.{lifted_in}
 use Rattle.text_setting_rows.specs.Settings.{data_row}
@@ -12,9 +16,9 @@ loop-i-init c = (omega arith, search rules, none (lifted_in c.args.s))
 
 pub loop-i-preserved : goal.loop-i-preserved
 loop-i-preserved c =
-    let zz : ⊥ = c.well_formed in
     let l = c.loop-i in
-    (omega arith, rw length-set l.invariant.1, one_more_lem (lifted_in c.args.s) l.out l.i _ c.lift.ensures (omega arith) l.invariant.2)
+    let f : SFits w16 (get_or c.args.s l.i (pos 0)) = search rules in
+    (omega arith, rw length-set l.invariant.1, one_more_lem (lifted_in c.args.s) l.out l.i _ (lifts f c.lift.ensures) (omega arith) l.invariant.2)
 
 pub returns : goal.returns
 unfolding data_row

@@ -2,7 +2,6 @@ use mir.Facts.{to_z-of_z, sfits_widen}
 use mathlib.Core.Path.{◌∙◌}
 use mir.Syntax.{w16}
 use mir.Val.{SFits}
-use borrow.Author.Rules.{rules}
 use Rattle.text_setting_rows.proofs.lift_byte.Goals as goal
 
 pub overflow_cast-n : goal.overflow_cast-n

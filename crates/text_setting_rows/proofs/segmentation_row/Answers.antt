@@ -1,6 +1,5 @@
 use mathlib.Core.Path.{refl}
 use Rattle.text_setting_rows.specs.Settings.{segmentation_row}
-use borrow.Author.Rules.{rules}
 use Rattle.text_setting_rows.proofs.segmentation_row.Goals as goal
 
 pub returns : goal.returns

@@ -2,7 +2,6 @@ use native.Mathlib.Omega.{arith}
 use borrow.Author.Tests.{lt-ltb, le-ltb}
 use Rattle.base_bytes.proofs.Append.{then}
 use Rattle.text_signed.specs.Number.{lowered_text}
-use borrow.Author.Rules.{rules}
 use Rattle.text_signed.proofs.put_lowered.Goals as goal
 
 pub returns-then-n-lt65536 : goal.returns-then-n-lt65536
