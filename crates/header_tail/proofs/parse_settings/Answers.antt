@@ -1,5 +1,4 @@
 use Rattle.header_tail.proofs.Records.{from_start}
-use borrow.Author.Rules.{rules}
 use Rattle.header_tail.proofs.parse_settings.Goals as goal
 
 pub returns : goal.returns
