@@ -1,5 +1,6 @@
 // Bytes within a buffer.
 #![tactic(auto)]
+
 ghost use Rattle.std.specs.Prelude.{◌-◌, min, ◌≡◌};
 ghost use Rattle.base_buffer.specs.Front.{Moved};
 

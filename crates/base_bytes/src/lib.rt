@@ -1,5 +1,6 @@
 // Bytes put after bytes in a lent buffer: each call puts some at a place and answers the place after them.
 #![tactic(auto)]
+
 ghost use Rattle.std.specs.Prelude.{◌-◌, ◌≤◌, min, ◌≡◌, [], ◌∷◌, length};
 ghost use Rattle.std.proofs.Math.Seq.{paste};
 ghost use Rattle.base_little.specs.Little.{spell_little};

@@ -1,5 +1,6 @@
 // The enums of a header, each with the number of every variant and the variant of every number.
 #![tactic(auto)]
+
 ghost use Rattle.std.specs.Prelude.{◌≡◌};
 ghost use Rattle.base_enums.specs.InterpolationFilter.{filter_number, filter_numbered, filter_of_literal};
 ghost use Rattle.base_enums.specs.ReferenceFrameType.{reference_number, reference_numbered};

@@ -1,5 +1,6 @@
 // Numbers of whole bytes, low byte first.
 #![tactic(auto)]
+
 ghost use Rattle.std.specs.Prelude.{◌+◌, ◌≤◌, ◌≡◌, length};
 ghost use Rattle.base_little.specs.Little.{little, read_little};
 

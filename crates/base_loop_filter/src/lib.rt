@@ -1,5 +1,6 @@
 // The loop filter settings, which a state remembers from frame to frame.
 #![tactic(auto)]
+
 ghost use Rattle.std.specs.Prelude.{◌≡◌};
 ghost use Rattle.base_loop_filter.specs.LoopFilterParams.{default_filter, reset_filter};
 

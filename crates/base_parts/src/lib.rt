@@ -1,5 +1,6 @@
 // The front and the rest of a slice, wherever the place lies.
 #![tactic(auto)]
+
 ghost use Rattle.std.specs.Prelude.{◌≡◌, take, drop};
 
 // The first n bytes, or all where there are fewer.

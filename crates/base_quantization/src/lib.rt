@@ -1,5 +1,6 @@
 // The quantizer settings of a frame.
 #![tactic(auto)]
+
 ghost use Rattle.std.specs.Prelude.{◌≡◌};
 ghost use Rattle.base_quantization.specs.QuantizationParams.{default_quantization};
 

@@ -1,5 +1,6 @@
 // The segmentation settings, which a state remembers from frame to frame.
 #![tactic(auto)]
+
 ghost use Rattle.std.specs.Prelude.{◌≡◌, ◌+◌, ◌*◌};
 ghost use Rattle.base_enums.specs.SegLvl.{seg_lvl_number};
 ghost use Rattle.base_segmentation.specs.SegmentationParams.{

@@ -1,5 +1,6 @@
 // A frame's size in pixels.
 #![tactic(auto)]
+
 ghost use Rattle.std.specs.Prelude.{◌≡◌};
 ghost use Rattle.base_size.specs.FrameSize.{no_size};
 

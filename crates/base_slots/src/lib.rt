@@ -1,5 +1,6 @@
 // The eight reference slots, and what a frame leaves in them.
 #![tactic(auto)]
+
 ghost use Rattle.std.specs.Prelude.{◌<◌, ◌≡◌};
 ghost use Rattle.base_slots.specs.Slots.{slot_after, refreshed};
 

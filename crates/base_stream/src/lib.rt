@@ -1,5 +1,6 @@
 // Standard input and output by blocks, and how a program says that it ended.
 #![tactic(auto)]
+
 ghost use Rattle.std.specs.Prelude.{◌+◌, ◌≤◌, ◌≡◌, length};
 ghost use Rattle.base_stream.specs.Stream.{bytes, end_of, ReadOn, FilledFrom, FrontFilled, WroteFront, room_left, RoomFor, EndsAs};
 

@@ -1,5 +1,6 @@
 // The types of a VP9 header and of the reader's state, with their constructors and limits.
 #![tactic(auto)]
+
 mod header;
 mod state;
 

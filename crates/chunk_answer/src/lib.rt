@@ -1,5 +1,6 @@
 // What a chunk is answered: the verdict, the places and headers of its frames, and the state after it.
 #![tactic(auto)]
+
 ghost use Rattle.std.specs.Prelude.{◌≡◌};
 ghost use Rattle.chunk_answer.specs.Answer.{chunk_number, chunk_frame, refused_chunk};
 

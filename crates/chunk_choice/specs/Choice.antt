@@ -1,6 +1,6 @@
 -- docs/RULES.md, "Picture choice".
 -- Assumes nothing.
-use Rattle.std.specs.Prelude.{ℕ, ◌+◌, ◌-◌, ◌≡◌, Bool, ◌&&◌, List, [], leb, length, take, drop}
+use Rattle.std.specs.Prelude.{ℕ, ◌+◌, ◌≡◌, Bool, List, [], take, drop}
 use Rattle.std.specs.Borrow.{Bor}
 use Rattle.base_shared.specs.Choice.{pick}
 use Rattle.base_shared.specs.Lists.{inside}

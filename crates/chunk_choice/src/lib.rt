@@ -1,5 +1,6 @@
 // The part of a chunk that a picture is taken from: of the new chunk or of the last good one.
 #![tactic(auto)]
+
 ghost use Rattle.chunk_choice.specs.Choice.{PartOf, ChoiceOf};
 
 // A part that lies outside is the empty part at the chunk's start.

@@ -1,5 +1,6 @@
 // A single frame of a chunk, at an offset and of a size.
 #![tactic(auto)]
+
 ghost use Rattle.std.specs.Prelude.{◌≡◌};
 ghost use Rattle.header_verdict.specs.declared.Place.TheVariants.{Outside};
 ghost use Rattle.chunk_frame.specs.Place.{refused_frame, frame_placed};

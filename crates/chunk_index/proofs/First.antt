@@ -1,17 +1,14 @@
 -- The first frame that ends past the room.
 -- Assumes nothing.
-use Prim.Native.Nat.{ℕ, zero, suc, ◌+◌, ◌<◌, ◌≤◌}
-use mathlib.Core.Path.{◌≡◌, refl, sym}
-use mathlib.Core.Bool.{Bool, true, false}
+use Prim.Native.Nat.{ℕ, ◌<◌, ◌≤◌}
+use mathlib.Core.Path.{◌≡◌, sym}
 use mathlib.Core.Logic.{◌⊎◌, inl, inr, ⊎_elim}
 use native.Mathlib.Nat.{eq-or-lt_of_le}
 use native.Mathlib.Omega.{arith}
 use lib.Dec.{ltb}
 use borrow.Author.Tests.{ltb-true, ltb-false, lt-ltb, le-ltb}
-use Rattle.base_shared.specs.Choice.{pick}
 use Rattle.chunk_index.specs.Layout.{Layout, frame_end}
 use Rattle.chunk_index.specs.declared.Answer.TheVariants.{Past}
-use Rattle.base_shared.specs.Lists.{first}
 use Rattle.chunk_index.specs.Split.{refused_split, places, first_past, placed}
 use Rattle.chunk_index.specs.Table.{FirstPast, NonePast}
 use Rattle.base_shared.proofs.Order.{below}

@@ -2,19 +2,16 @@
 -- Assumes nothing.
 use Prim.Native.Nat.{ℕ, ◌+◌, ◌*◌, ◌<◌, ◌≤◌}
 use mathlib.Core.Path.{◌≡◌, sym, ◌∙◌, refl}
-use mathlib.Core.List.{List, [], ◌∷◌}
-use mathlib.Core.Logic.{⊎_elim}
+use mathlib.Core.List.{List}
 use native.Mathlib.Nat.{suc-mul, mul-le-mul_right, mul-le-mul}
 use native.Mathlib.Numerals.{add-one}
 use native.Mathlib.Omega.{arith}
 use Rattle.base_shared.proofs.Other.{NotOne}
-use denote.Enum.Declared.{tag_of}
 use lib.ListN.{length}
 use Rattle.base_little.specs.declared.Little.{Little}
 use Rattle.base_little.specs.declared.Little.TheVariants.{Value}
 use Rattle.base_little.specs.Little.{little, read_little}
 use Rattle.base_little.proofs.Bytes.{little_value}
-use Rattle.base_little.specs.contracts.Little.{the_type}
 use Rattle.chunk_index.specs.Layout.{frames_in, bytes_per_size}
 
 -- size i of n bytes stands before the end of them all

@@ -1,6 +1,6 @@
 -- What splitting a chunk answers.
 -- Assumes nothing.
-use Rattle.std.specs.Prelude.{ℕ, zero, suc, ◌+◌, Bool, List, eqb, ltb, length, set, replicate}
+use Rattle.std.specs.Prelude.{ℕ, zero, suc, List, eqb, ltb, length, set, replicate}
 use Rattle.base_shared.specs.Choice.{pick}
 use Rattle.chunk_index.specs.declared.Answer.{Answer}
 use Rattle.chunk_index.specs.declared.Answer.TheVariants.{Frames, Empty, Short, Past}

@@ -1,5 +1,6 @@
 // The frames of a chunk, by its superframe index.
 #![tactic(auto)]
+
 ghost use Rattle.std.specs.Prelude.{◌≡◌, ◌+◌, ◌*◌, ◌≤◌, length};
 ghost use Rattle.base_little.specs.Little.{little};
 ghost use Rattle.chunk_index.specs.Layout.{marker, last_byte, laid, whole};

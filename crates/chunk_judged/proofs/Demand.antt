@@ -8,12 +8,11 @@ use native.Mathlib.Numerals.{add-one}
 use native.Mathlib.Omega.{arith}
 use Rattle.base_bits.specs.declared.Refusal.{Refusal}
 use Rattle.base_bits.specs.declared.Refusal.TheVariants.{FrameMarker, SyncCode, PastEnd}
-use Rattle.base_bits.specs.Refusal.{refusal_number}
 use Rattle.base_types.specs.Header.{default_header}
 use Rattle.base_types.specs.declared.header.Header.{Header}
 use Rattle.base_types.specs.declared.state.ReaderState.{ReaderState}
 use Rattle.header_verdict.specs.declared.Verdict.{Verdict}
-use Rattle.header_verdict.specs.declared.Verdict.TheVariants.{Accepted, Refused}
+use Rattle.header_verdict.specs.declared.Verdict.TheVariants.{Refused}
 use Rattle.header_answer.specs.declared.HeaderRead.{HeaderRead}
 use Rattle.header_answer.specs.Answer.{accepted, refused_with}
 use Rattle.header_answer.proofs.Accepted.{accepted_is}

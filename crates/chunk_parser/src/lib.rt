@@ -1,5 +1,6 @@
 // A chunk, whole: the places and headers of its frames, and the state after it.
 #![tactic(auto)]
+
 ghost use Rattle.std.specs.Prelude.{◌≡◌};
 ghost use Rattle.chunk_index.specs.declared.Answer.TheVariants.{Frames};
 ghost use Rattle.chunk_index.specs.Split.{split_of};

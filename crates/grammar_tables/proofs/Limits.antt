@@ -1,16 +1,12 @@
 -- The limits are the smallest and the largest numbers of their kinds, and there is one of each.
 -- Assumes nothing.
 use Prim.Native.Nat.{ℕ, zero, suc, ◌+◌, ◌-◌, ◌*◌, ◌/◌, ◌^◌, ◌≤◌, ◌<◌, pred, zero-le}
-use mathlib.Core.Path.{◌≡◌, refl}
-use mathlib.Core.Bool.{Bool, true, false}
-use mathlib.Core.Logic.{⊎_elim}
-use native.Mathlib.Nat.{add-zero, add-suc, suc-add, pow-succ', le_antisymm, eq-or-lt_of_le, div-le_self, div-lt_iff_lt-mul}
+use mathlib.Core.Path.{◌≡◌}
+use native.Mathlib.Nat.{pow-succ', le_antisymm, div-le_self, div-lt_iff_lt-mul}
 use native.Mathlib.Omega.{arith}
 use lib.Pow.{pow_pos, shr-shr}
 use borrow.Author.Tests.{leb-true, leb-false, ltb-true, ltb-false, le-leb, lt-ltb}
-use Rattle.base_shared.specs.Choice.{pick}
 use Rattle.grammar_tables.specs.Limits.{reaches, falls, Smallest, Largest}
-use Rattle.base_shared.specs.Lists.{first}
 use Rattle.grammar_tables.specs.Tables.{superblocks, least, most}
 use Rattle.base_shared.proofs.First.{first_le, first_has_end, none_before}
 

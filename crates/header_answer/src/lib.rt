@@ -1,5 +1,6 @@
 // What a frame's header is answered. It stands below the reader, so that a chunk can be proved over any judge of frames.
 #![tactic(auto)]
+
 use base_types::{Header, ReaderState};
 use header_verdict::Verdict;
 

@@ -1,5 +1,6 @@
 // A frame's header from frame_type to frame_context_idx: what kind of frame it is, its picture, and its context.
 #![tactic(auto)]
+
 ghost use Rattle.std.specs.Prelude.{◌≡◌};
 ghost use Rattle.base_syntax.specs.Reader.{over, alter};
 ghost use Rattle.header_picture.specs.Picture.{view_picture};

@@ -1,5 +1,6 @@
 // A frame's header, whole: the record, and the state that it leaves.
 #![tactic(auto)]
+
 ghost use Rattle.std.specs.Prelude.{◌≡◌};
 ghost use Rattle.header_parser.specs.Parts.{remembered_color, shown_header, finished, settled, framed};
 ghost use Rattle.header_answer.specs.Answer.{refused_with};

@@ -1,6 +1,7 @@
 // What a frame says of its picture: colour, sizes, references and motion; and the pictures of key frames and
 // intra-only frames.
 #![tactic(auto)]
+
 ghost use Rattle.std.specs.Prelude.{◌≡◌};
 ghost use Rattle.base_syntax.specs.Reader.{over};
 ghost use Rattle.header_picture.specs.Key.{read_key, key_of};

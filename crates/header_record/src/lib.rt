@@ -1,5 +1,6 @@
 // The record of a frame's header, put together from the parts that were read.
 #![tactic(auto)]
+
 ghost use Rattle.std.specs.Prelude.{◌≡◌};
 ghost use Rattle.header_record.specs.Record.{cut_length, independent, frame_type_of, sign_biases, frame_record};
 

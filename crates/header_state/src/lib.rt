@@ -1,5 +1,6 @@
 // The state after a frame, put together from the parts that were read and the state before.
 #![tactic(auto)]
+
 ghost use Rattle.std.specs.Prelude.{◌≡◌};
 ghost use Rattle.header_state.specs.State.{range_after, frame_state};
 

@@ -1,5 +1,6 @@
 // A frame's header from its loop filter on: the settings, the tiles, and the size of the compressed header.
 #![tactic(auto)]
+
 ghost use Rattle.std.specs.Prelude.{◌≡◌};
 ghost use Rattle.base_syntax.specs.Reader.{over};
 ghost use Rattle.header_tail.specs.Settings.{starting_filter, starting_segmentation, kept_settings, SettingsAre};

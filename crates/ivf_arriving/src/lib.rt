@@ -1,5 +1,6 @@
 // The next record of an IVF file, of which a part is at hand.
 #![tactic(auto)]
+
 ghost use Rattle.std.specs.Prelude.{◌≤◌, ◌≡◌, length};
 ghost use Rattle.base_little.specs.Little.{little};
 ghost use Rattle.ivf_arriving.specs.Next.{empty_by, short_by, next_record};

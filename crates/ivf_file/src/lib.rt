@@ -1,5 +1,6 @@
 // IVF files: the header of a file, and the record at a place of it.
 #![tactic(auto)]
+
 ghost use Rattle.std.specs.Prelude.{◌≡◌, ◌+◌, ◌^◌, ◌≤◌, ◌<◌, length};
 ghost use Rattle.base_little.specs.Little.{little, read_little};
 ghost use Rattle.ivf_file.specs.File.{stands_at, file_header_of, file_of};

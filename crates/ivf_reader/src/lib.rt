@@ -1,6 +1,7 @@
 // A reader of a recording's records: it keeps the lent file and its place together. The work is done by
 // `ivf_file::read_record`, which takes a plain slice and a place.
 #![tactic(auto)]
+
 ghost use Rattle.std.specs.Prelude.{◌≡◌};
 ghost use Rattle.ivf_file.specs.Record.{record_of};
 ghost use Rattle.ivf_reader.specs.Reader.{opened, reader_place_after, moved_on};

@@ -1,5 +1,6 @@
 // A walk through an IVF file of which a part is at hand: what stands next, and how many bytes that takes.
 #![tactic(auto)]
+
 ghost use Rattle.std.specs.Prelude.{◌≡◌};
 ghost use Rattle.ivf_file.specs.File.{file_of};
 ghost use Rattle.ivf_walk.specs.Turn.{file_turn, start_turn, record_turn, skip_turn, turn_of};

@@ -3,16 +3,13 @@
 use Prim.Native.Nat.{ℕ, ◌≤◌}
 use mathlib.Core.Path.{◌≡◌, refl}
 use mathlib.Core.List.{[], ◌∷◌}
-use types.Run.{OneOf, miss}
-use denote.Enum.Declared.{tag_of}
+use Rattle.base_shared.proofs.Other.{NotOne}
 use Rattle.chunk_answer.specs.declared.Answer.{Answer}
 use Rattle.chunk_answer.specs.declared.Answer.TheVariants as answer
 use Rattle.chunk_answer.specs.declared.ChunkRead.{ChunkRead}
 use Rattle.chunk_answer.specs.Answer.{chunk_number, chunk_frame}
-use Rattle.chunk_answer.specs.contracts.Answer as chunk
 use Rattle.ivf_walk.specs.declared.Event.{Event}
 use Rattle.ivf_walk.specs.declared.Event.TheVariants.{More, Pass, NoFile, Opened, Data, TooLong, Cut, End, Over}
-use Rattle.ivf_walk.specs.contracts.Event as event
 use Rattle.text_listing.specs.Lines.{refused_line}
 use Rattle.listing_file.specs.Chunk.{answer_lines}
 use Rattle.listing_lister.specs.Feed.{by_data, NoData}
@@ -29,8 +26,8 @@ no_data_lem End h a b = refl
 no_data_lem Over h a b = refl
 
 -- as the code tells them apart
-pub other_event : (e : Event) → OneOf (0 ∷ 1 ∷ 2 ∷ 3 ∷ 5 ∷ 6 ∷ 7 ∷ 8 ∷ []) (tag_of event.the_type e) → NoData e
-other_event (Data n) h = absurd (miss (0 ∷ 1 ∷ 2 ∷ 3 ∷ 5 ∷ 6 ∷ 7 ∷ 8 ∷ []) 4 tt h)
+pub other_event : (e : Event) → NotOne Data e → NoData e
+other_event (Data n) h = absurd (h n refl)
 other_event More h = tt
 other_event Pass h = tt
 other_event NoFile h = tt
@@ -40,8 +37,8 @@ other_event Cut h = tt
 other_event End h = tt
 other_event Over h = tt
 
-pub other_answer : (c : ℕ) (r : ChunkRead) (a : Answer) → OneOf (1 ∷ 2 ∷ 3 ∷ 4 ∷ []) (tag_of chunk.the_type a) → answer_lines c r a ≡ refused_line c (chunk_number a) (chunk_frame a) ∷ []
-other_answer c r (answer.Frames n) h = absurd (miss (1 ∷ 2 ∷ 3 ∷ 4 ∷ []) 0 tt h)
+pub other_answer : (c : ℕ) (r : ChunkRead) (a : Answer) → NotOne answer.Frames a → answer_lines c r a ≡ refused_line c (chunk_number a) (chunk_frame a) ∷ []
+other_answer c r (answer.Frames n) h = absurd (h n refl)
 other_answer c r answer.Empty h = refl
 other_answer c r answer.Short h = refl
 other_answer c r (answer.Past i) h = refl

@@ -1,6 +1,7 @@
 // Puts out the listing of an IVF file as the file arrives: a program reads, feeds what has arrived to a `Lister`, and
 // writes what that puts into a buffer. The lister keeps nothing of the file but the reader's state and two counts.
 #![tactic(auto)]
+
 ghost use Rattle.std.specs.Prelude.{◌+◌, ◌≤◌, ◌≡◌, [], ◌∷◌, length};
 ghost use Rattle.base_shared.specs.Lists.{values_of};
 ghost use Rattle.base_bytes.specs.Put.{Written};

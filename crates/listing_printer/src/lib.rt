@@ -1,5 +1,6 @@
 // Puts what a tracer yields as text, into a buffer with room for it.
 #![tactic(auto)]
+
 ghost use Rattle.std.specs.Prelude.{[], ◌∷◌};
 ghost use Rattle.base_bytes.specs.Put.{Written};
 ghost use Rattle.listing_items.specs.Items.{frame, file_refused, last};

@@ -1,6 +1,7 @@
 // Yields the long form of an IVF file (docs/LONG-FORM.md) item by item as the file arrives: a program reads, calls
 // `next_item` on what has arrived, and prints what that yields.
 #![tactic(auto)]
+
 ghost use Rattle.std.specs.Prelude.{◌+◌, ◌<◌, ◌≤◌, ◌≡◌, length, get_or};
 ghost use Rattle.listing_items.specs.Items.{header_at};
 ghost use Rattle.listing_lister.specs.Lister.{one_more};

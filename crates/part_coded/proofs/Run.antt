@@ -3,12 +3,11 @@
 use Prim.Native.Nat.{ℕ, suc, ◌+◌, ◌-◌, ◌≤◌, ◌<◌, zero-le}
 use Prim.Native.String.{String}
 use mathlib.Core.Path.{◌≡◌, refl, sym, ap, ◌∙◌}
-use mathlib.Core.List.{List, [], ◌∷◌}
+use mathlib.Core.List.{List}
 use native.Mathlib.Nat.{sub-zero, zero-add}
 use native.Mathlib.Omega.{arith}
 use borrow.Author.Tests.{eq-eqb, ne_eqb}
 use Rattle.base_shared.proofs.Other.{NotTwo}
-use denote.Enum.Declared.{tag_of}
 use Rattle.base_bits.specs.declared.Bits.{Bits}
 use Rattle.base_bits.specs.declared.Bits.TheVariants.{Value}
 use Rattle.base_bits.specs.declared.Cursor.{Cursor}
@@ -16,7 +15,6 @@ use Rattle.base_bits.specs.declared.Refusal.TheVariants.{PastEnd}
 use Rattle.base_bits.specs.Refusal.{item}
 use Rattle.base_bits.specs.Read.{read_bits}
 use Rattle.base_syntax.specs.Reader.{Read, read, stopped, got, refused, bind, over}
-use Rattle.base_bits.specs.contracts.Bits.{the_type}
 use Rattle.base_syntax.proofs.Steps.{value_read, short_read}
 use Rattle.grammar_tables.specs.Reading.{read_run}
 

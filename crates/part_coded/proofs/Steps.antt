@@ -2,11 +2,8 @@
 -- Assumes nothing.
 use Prim.Native.Nat.{ℕ}
 use mathlib.Core.Path.{◌≡◌, refl}
-use mathlib.Core.List.{List, [], ◌∷◌}
-use mathlib.Core.Logic.{⊎_elim}
-use native.Mathlib.Omega.{arith}
+use mathlib.Core.List.{List}
 use Rattle.base_shared.proofs.Other.{NotTwo}
-use denote.Enum.Declared.{tag_of}
 use Rattle.base_bits.specs.declared.Cursor.{Cursor}
 use Rattle.base_bits.specs.declared.Refusal.TheVariants.{PastEnd}
 use Rattle.base_bits.specs.Refusal.{Name}
@@ -18,7 +15,6 @@ use Rattle.part_coded.specs.declared.DeltaRead.TheVariants.{Value, Short, TooWid
 use Rattle.part_coded.specs.Delta.{delta_of, view_delta, NarrowIs}
 use Rattle.grammar_tables.specs.Tables.{DeltaValues}
 use Rattle.grammar_tables.specs.Reading.{read_delta}
-use Rattle.part_coded.specs.contracts.DeltaRead.{the_type}
 
 no_delta_lem : {x : Got Delta} (r : DeltaRead) → view_delta r ≡ x → NotTwo Value r → refused PastEnd ≡ x
 no_delta_lem (Value d c) e h = absurd (h d c refl)

@@ -1,5 +1,6 @@
 // Fields that are coded: a signed number, a delta behind a flag, a probability behind a flag.
 #![tactic(auto)]
+
 ghost use Rattle.std.specs.Prelude.{◌<◌, ◌≤◌, ◌≡◌};
 ghost use Rattle.grammar_settings.specs.Settings.{signed};
 ghost use Rattle.part_coded.specs.Delta.{NarrowIs, DeltaIs};

@@ -2,10 +2,8 @@
 -- Assumes nothing.
 use Prim.Native.Nat.{ℕ}
 use mathlib.Core.Path.{◌≡◌, refl}
-use mathlib.Core.List.{List, [], ◌∷◌}
-use native.Mathlib.Omega.{arith}
+use mathlib.Core.List.{List}
 use Rattle.base_shared.proofs.Other.{NotTwo}
-use denote.Enum.Declared.{tag_of}
 use Rattle.base_bits.specs.declared.Cursor.{Cursor}
 use Rattle.base_bits.specs.declared.Refusal.TheVariants.{PastEnd}
 use Rattle.base_syntax.specs.Reader.{Got, Read, refused, bind, over, said}
@@ -17,7 +15,6 @@ use Rattle.part_color.specs.Color.{color_of, view_color}
 use Rattle.grammar_tables.specs.Tables.{ColorValues}
 use Rattle.grammar_tables.specs.Reading.{read_color}
 use Rattle.part_color.specs.Intra.{read_intra_color, intra_color_of}
-use Rattle.part_color.specs.contracts.ColorRead.{the_type}
 
 no_color_lem : {x : Got Color} (r : ColorRead) → view_color r ≡ x → NotTwo Value r → refused PastEnd ≡ x
 no_color_lem (Value a c) e h = absurd (h a c refl)

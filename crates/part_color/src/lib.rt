@@ -1,5 +1,6 @@
 // color_config(): depth, colour space, range and subsampling.
 #![tactic(auto)]
+
 ghost use Rattle.std.specs.Prelude.{◌≡◌};
 ghost use Rattle.base_syntax.specs.Reader.{over};
 ghost use Rattle.part_color.specs.Color.{color_of, view_color};

@@ -3,13 +3,12 @@
 use Prim.Native.Nat.{ℕ, ◌≤◌, ◌<◌}
 use mathlib.Core.Path.{◌≡◌, refl, sym}
 use mathlib.Core.Bool.{Bool, true, ◌&&◌}
-use mathlib.Core.List.{List, [], ◌∷◌}
+use mathlib.Core.List.{List}
 use native.Mathlib.Omega.{arith}
 use lib.Dec.{T, leb, le→leb}
 use lib.ListN.{length, get_or, get_or-eq_default}
 use lib.Pow.{pow_mono}
 use Rattle.base_shared.proofs.Other.{NotTwo}
-use denote.Enum.Declared.{tag_of}
 use Rattle.base_bits.specs.declared.Bits.{Bits}
 use Rattle.base_bits.specs.declared.Bits.TheVariants.{Value}
 use Rattle.base_bits.specs.declared.Cursor.{Cursor}
@@ -17,7 +16,6 @@ use Rattle.base_bits.specs.declared.Refusal.TheVariants.{PastEnd}
 use Rattle.base_bits.specs.Refusal.{Name}
 use Rattle.base_bits.specs.Read.{read_bits_if}
 use Rattle.base_syntax.specs.Reader.{Got, Read, refused, bind, over, field_if, said}
-use Rattle.base_bits.specs.contracts.Bits.{the_type}
 use Rattle.base_syntax.proofs.Steps.{value_if_lt, step_if, stop_if}
 use Rattle.grammar_tables.specs.Tables.{feature_bits}
 use Rattle.grammar_tables.proofs.Laws.{bits_small}

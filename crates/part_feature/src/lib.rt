@@ -1,5 +1,6 @@
 // One feature of one segment in segmentation_params().
 #![tactic(auto)]
+
 ghost use Rattle.std.specs.Prelude.{◌&&◌, ◌≡◌};
 ghost use Rattle.part_feature.specs.Feature.{FeatureIs};
 ghost use Rattle.grammar_tables.specs.Tables.{feature_bits, feature_signed};

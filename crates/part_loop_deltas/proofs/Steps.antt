@@ -2,11 +2,9 @@
 -- Assumes nothing.
 use Prim.Native.Nat.{ℕ}
 use mathlib.Core.Path.{◌≡◌, refl}
-use mathlib.Core.List.{List, [], ◌∷◌}
-use native.Mathlib.Omega.{arith}
+use mathlib.Core.List.{List}
 use lib.Dec.{eqb}
 use Rattle.base_shared.proofs.Other.{NotTwo}
-use denote.Enum.Declared.{tag_of}
 use Rattle.base_bits.specs.declared.Cursor.{Cursor}
 use Rattle.base_bits.specs.declared.Next.TheVariants.{At, Refused}
 use Rattle.base_bits.specs.declared.Refusal.{Refusal}
@@ -26,8 +24,6 @@ use Rattle.part_loop_deltas.specs.declared.LoopFilterRead.{LoopFilterRead}
 use Rattle.part_loop_deltas.specs.LoopDeltas.{ref_deltas_of, mode_deltas_of, view_ref_deltas, view_mode_deltas, view_loop_filter}
 use Rattle.grammar_tables.specs.Reading.{no_ref_deltas, no_mode_deltas, read_ref_deltas, read_mode_deltas}
 use Rattle.part_loop_deltas.proofs.Readings.{group_taken}
-use Rattle.part_loop_deltas.specs.contracts.RefDeltasRead.{the_type as the-refs}
-use Rattle.part_loop_deltas.specs.contracts.ModeDeltasRead.{the_type as the-modes}
 
 -- an answer that holds no value is short
 no_refs_lem : {x : Got RefDeltas} (r : RefDeltasRead) → view_ref_deltas r ≡ x → NotTwo Refs r → refused PastEnd ≡ x

@@ -1,5 +1,6 @@
 // The deltas of loop_filter_params(): what references and modes add to the level.
 #![tactic(auto)]
+
 ghost use Rattle.std.specs.Prelude.{◌≡◌};
 ghost use Rattle.base_syntax.specs.Reader.{over};
 ghost use Rattle.part_loop_deltas.specs.LoopDeltas.{ref_deltas_of, mode_deltas_of, delta_moved, moved_refs, moved_modes, with_deltas, loop_deltas_of, view_ref_deltas, view_mode_deltas, view_loop_filter, read_loop_deltas};

@@ -1,5 +1,6 @@
 // loop_filter_params().
 #![tactic(auto)]
+
 ghost use Rattle.std.specs.Prelude.{◌≡◌, false};
 ghost use Rattle.base_syntax.specs.Reader.{over};
 ghost use Rattle.part_loop_deltas.specs.LoopDeltas.{view_loop_filter};

@@ -2,10 +2,8 @@
 -- Assumes nothing.
 use Prim.Native.Nat.{ℕ}
 use mathlib.Core.Path.{◌≡◌, refl}
-use mathlib.Core.List.{List, [], ◌∷◌}
-use native.Mathlib.Omega.{arith}
+use mathlib.Core.List.{List}
 use Rattle.base_shared.proofs.Other.{NotTwo}
-use denote.Enum.Declared.{tag_of}
 use Rattle.base_bits.specs.declared.Cursor.{Cursor}
 use Rattle.base_bits.specs.declared.Refusal.TheVariants.{PastEnd}
 use Rattle.base_syntax.specs.Reader.{Got, Read, refused, bind, over, said}
@@ -14,7 +12,6 @@ use Rattle.base_enums.specs.declared.InterpolationFilter.{InterpolationFilter}
 use Rattle.part_motion.specs.declared.FilterRead.{FilterRead}
 use Rattle.part_motion.specs.declared.FilterRead.TheVariants.{Value as Filter, Short as NoFilter}
 use Rattle.part_motion.specs.Filter.{FilterValues, read_filter, filter_of, view_filter}
-use Rattle.part_motion.specs.contracts.FilterRead.{the_type as the-filter}
 use Rattle.part_motion.specs.declared.Motion.{Motion}
 use Rattle.part_motion.specs.declared.MotionRead.{MotionRead}
 use Rattle.part_motion.specs.declared.MotionRead.TheVariants.{Value as Moves, Short as Still}

@@ -1,5 +1,6 @@
 // How an inter frame moves what it refers to: allow_high_precision_mv and read_interpolation_filter().
 #![tactic(auto)]
+
 ghost use Rattle.std.specs.Prelude.{◌≡◌};
 ghost use Rattle.base_syntax.specs.Reader.{over};
 ghost use Rattle.part_motion.specs.Filter.{read_filter, filter_of, view_filter};

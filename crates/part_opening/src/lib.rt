@@ -1,5 +1,6 @@
 // How a header starts, marker and profile and the frame that is shown again, and the sync code.
 #![tactic(auto)]
+
 ghost use Rattle.std.specs.Prelude.{◌≡◌};
 ghost use Rattle.base_syntax.specs.Reader.{over};
 ghost use Rattle.part_opening.specs.Profile.{read_profile, opening_profile, view_profile};

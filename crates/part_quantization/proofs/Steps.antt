@@ -2,11 +2,9 @@
 -- Assumes nothing.
 use Prim.Native.Nat.{ℕ}
 use mathlib.Core.Path.{◌≡◌, refl}
-use mathlib.Core.List.{List, [], ◌∷◌}
-use native.Mathlib.Omega.{arith}
+use mathlib.Core.List.{List}
 use lib.IntN.{ℤ}
 use Rattle.base_shared.proofs.Other.{NotTwo}
-use denote.Enum.Declared.{tag_of}
 use Rattle.base_bits.specs.declared.Cursor.{Cursor}
 use Rattle.base_bits.specs.declared.Refusal.TheVariants.{PastEnd}
 use Rattle.base_syntax.specs.Reader.{Got, Read, read, stopped, refused, bind, over, said}
@@ -20,8 +18,6 @@ use Rattle.part_quantization.specs.declared.QuantizerRead.TheVariants.{Value as 
 use Rattle.part_quantization.specs.Quantizer.{view_delta_q, DeltaQIs, view_quantizer}
 use Rattle.grammar_tables.specs.Reading.{read_delta_q, read_quantizer}
 use Rattle.grammar_settings.specs.Settings.{quantizer_of, delta_value}
-use Rattle.part_quantization.specs.contracts.DeltaQRead.{the_type as the-delta-q}
-use Rattle.part_quantization.specs.contracts.QuantizerRead.{the_type as the-quantizer}
 
 -- a reading with nothing after it
 pub alone : {B D : Type 0} (f : B → D) (m : Read B) (o : Got D) → o ≡ over f (bind m (λ a q. read a q)) → o ≡ over f m

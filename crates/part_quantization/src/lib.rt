@@ -1,5 +1,6 @@
 // quantization_params(): the base and the three deltas.
 #![tactic(auto)]
+
 ghost use Rattle.std.specs.Prelude.{◌≡◌};
 ghost use Rattle.base_syntax.specs.Reader.{over};
 ghost use Rattle.part_quantization.specs.Quantizer.{view_quantizer, DeltaQIs};

@@ -1,5 +1,6 @@
 // The references of an inter frame, and the slots that it writes.
 #![tactic(auto)]
+
 ghost use Rattle.std.specs.Prelude.{◌≡◌};
 ghost use Rattle.base_syntax.specs.Reader.{over};
 ghost use Rattle.part_refs.specs.Refs.{RefIs, refs_of, view_refs};

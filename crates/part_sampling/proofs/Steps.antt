@@ -2,10 +2,8 @@
 -- Assumes nothing.
 use Prim.Native.Nat.{ℕ}
 use mathlib.Core.Path.{◌≡◌, refl}
-use mathlib.Core.List.{List, [], ◌∷◌}
-use native.Mathlib.Omega.{arith}
+use mathlib.Core.List.{List}
 use Rattle.base_shared.proofs.Other.{NotTwo}
-use denote.Enum.Declared.{tag_of}
 use Rattle.base_bits.specs.declared.Cursor.{Cursor}
 use Rattle.base_bits.specs.declared.Refusal.TheVariants.{PastEnd}
 use Rattle.base_syntax.specs.Reader.{Got, Read, refused, bind, over, said}
@@ -14,7 +12,6 @@ use Rattle.part_sampling.specs.declared.Sampling.{Sampling}
 use Rattle.part_sampling.specs.declared.SamplingRead.{SamplingRead}
 use Rattle.part_sampling.specs.declared.SamplingRead.TheVariants.{Value as Sampled, Short as Unsampled}
 use Rattle.part_sampling.specs.Sampling.{sampling_of, view_sampling, SamplingValues, read_sampling}
-use Rattle.part_sampling.specs.contracts.SamplingRead.{the_type as the-sampling}
 
 no_sampling : {x : Got Sampling} (r : SamplingRead) → view_sampling r ≡ x → NotTwo Sampled r → refused PastEnd ≡ x
 no_sampling (Sampled a c) e h = absurd (h a c refl)

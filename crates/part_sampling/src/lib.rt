@@ -1,5 +1,6 @@
 // What color_config() has after color_space: range and subsampling.
 #![tactic(auto)]
+
 ghost use Rattle.std.specs.Prelude.{◌≡◌};
 ghost use Rattle.base_syntax.specs.Reader.{over};
 ghost use Rattle.part_sampling.specs.Sampling.{sampling_of, view_sampling, read_sampling};

@@ -1,5 +1,6 @@
 // The features' part of segmentation_params().
 #![tactic(auto)]
+
 ghost use Rattle.std.specs.Prelude.{◌≡◌};
 ghost use Rattle.base_syntax.specs.Reader.{over};
 ghost use Rattle.part_segment_data.specs.Features.{feature_rows, view_features};

@@ -1,5 +1,6 @@
 // The map's part of segmentation_params(), with its probabilities.
 #![tactic(auto)]
+
 ghost use Rattle.std.specs.Prelude.{◌≤◌, ◌≡◌, take};
 ghost use Rattle.part_segment_map.specs.Probs.{ProbsAre, ProbsAreIf};
 ghost use Rattle.part_segment_map.specs.Map.{MapIs};

@@ -1,5 +1,6 @@
 // The segmentation settings of a frame: segmentation_params().
 #![tactic(auto)]
+
 ghost use Rattle.part_segmentation.specs.Segmentation.{SegmentationIs};
 
 use base_bits::{Bits, Cursor, Next, Refusal};

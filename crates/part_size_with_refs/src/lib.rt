@@ -1,5 +1,6 @@
 // frame_size_with_refs(): the size that a reference gives, or one of its own.
 #![tactic(auto)]
+
 ghost use Rattle.std.specs.Prelude.{◌≡◌, ◌<◌};
 ghost use Rattle.base_syntax.specs.Reader.{over};
 ghost use Rattle.part_sizes.specs.Sizes.{view_sizes};

@@ -1,5 +1,6 @@
 // frame_size() and render_size().
 #![tactic(auto)]
+
 ghost use Rattle.std.specs.Prelude.{◌≡◌};
 ghost use Rattle.base_syntax.specs.Reader.{over};
 ghost use Rattle.part_sizes.specs.Size.{SizeIs, SizeOrIs};

@@ -3,10 +3,8 @@
 use Prim.Native.Nat.{ℕ}
 use mathlib.Core.Path.{◌≡◌, refl}
 use mathlib.Core.Bool.{Bool}
-use mathlib.Core.List.{List, [], ◌∷◌}
-use native.Mathlib.Omega.{arith}
+use mathlib.Core.List.{List}
 use Rattle.base_shared.proofs.Other.{NotTwo}
-use denote.Enum.Declared.{tag_of}
 use Rattle.base_bits.specs.declared.Cursor.{Cursor}
 use Rattle.base_bits.specs.declared.Refusal.TheVariants.{PastEnd}
 use Rattle.base_syntax.specs.Reader.{Got, Read, refused, bind, over, said}
@@ -19,8 +17,6 @@ use Rattle.part_traits.specs.declared.ContextRead.{ContextRead}
 use Rattle.part_traits.specs.declared.ContextRead.TheVariants.{Value as With, Short as Without}
 use Rattle.part_traits.specs.Traits.{TraitsValues, read_traits, traits_of, view_traits}
 use Rattle.part_traits.specs.Context.{ContextValues, read_context, context_of, view_context}
-use Rattle.part_traits.specs.contracts.TraitsRead.{the_type as traits-type}
-use Rattle.part_traits.specs.contracts.ContextRead.{the_type as context-type}
 
 no_traits : {x : Got Traits} (r : TraitsRead) → view_traits r ≡ x → NotTwo Has r → refused PastEnd ≡ x
 no_traits (Has a c) e h = absurd (h a c refl)

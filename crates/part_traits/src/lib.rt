@@ -1,5 +1,6 @@
 // What a frame says of itself outside the groups: its traits, its kind, the frame context.
 #![tactic(auto)]
+
 ghost use Rattle.std.specs.Prelude.{◌≡◌};
 ghost use Rattle.base_syntax.specs.Reader.{over};
 ghost use Rattle.part_traits.specs.Traits.{read_traits, traits_of, view_traits};

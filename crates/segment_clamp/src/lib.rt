@@ -1,5 +1,6 @@
 // Numbers of a frame that a delta or a feature changes, each brought back into its range.
 #![tactic(auto)]
+
 ghost use Rattle.std.specs.Prelude.{◌≡◌, pos, ◌+ℤ◌};
 ghost use Rattle.segment_clamp.specs.Clamp.{clamp_to, changed};
 

@@ -1,5 +1,6 @@
 // What the features of one segment say. The rows are lent, since the settings by value are copied at every call.
 #![tactic(auto)]
+
 ghost use Rattle.std.specs.Prelude.{◌≡◌, false, ◌&&◌, ◌+◌, ◌*◌, pos};
 ghost use Rattle.base_enums.specs.SegLvl.{seg_lvl_number};
 ghost use Rattle.base_segmentation.specs.SegmentationParams.{feature_in};

@@ -1,5 +1,6 @@
 // A grid of levels, four references by two modes, and the row that a record holds it in.
 #![tactic(auto)]
+
 ghost use Rattle.std.specs.Prelude.{◌≡◌};
 ghost use Rattle.segment_grid.specs.Grid.{grid_of, row_of};
 

@@ -1,5 +1,6 @@
 // The filter levels of a segment: VP9's loop filter frame init process, section 8.8.1.
 #![tactic(auto)]
+
 ghost use Rattle.std.specs.Prelude.{◌≡◌, ◌+ℤ◌};
 ghost use Rattle.segment_levels.specs.Levels.{scaled, level_moved, pair_of, delta_grid, levels_at};
 ghost use Rattle.segment_levels.specs.Once.{frame_levels, kept, levels_from};

@@ -1,5 +1,6 @@
 // The quantizer index and the four scales of a segment: VP9's dequantization functions, section 8.6.1.
 #![tactic(auto)]
+
 ghost use Rattle.std.specs.Prelude.{◌≡◌, pos, ◌+ℤ◌};
 ghost use Rattle.segment_clamp.specs.Clamp.{clamp_to};
 ghost use Rattle.segment_quant.specs.Quant.{qindex_of, qindex, scale_at, dc_delta, ac_delta, dc_quant, ac_quant, scales_at};

@@ -1,5 +1,6 @@
 // The eight segment records of a frame: the filter's levels, and the scales and entries of each segment.
 #![tactic(auto)]
+
 ghost use Rattle.std.specs.Prelude.{◌≡◌};
 ghost use Rattle.base_shared.specs.Lists.{each};
 ghost use Rattle.segment_records.specs.Segmentation.{default_segment, segment_with, segment_of};

@@ -1,6 +1,7 @@
 // The quantizer tables of VP9. A compiled constant is stored anew wherever it is named, so a table is made once by its
 // depth and lent to each look-up.
 #![tactic(auto)]
+
 ghost use Rattle.std.specs.Prelude.{◌≡◌};
 ghost use Rattle.segment_tables.specs.Tables.{dc_table, ac_table, entry};
 

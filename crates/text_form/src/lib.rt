@@ -1,6 +1,7 @@
 // Text by forms. A form is a text in which marks stand for values, which come in a row: # for a number, % for one that
 // is lifted (text_signed), ? for a flag, and <a|b|c> for one of some words, by its number from 0.
 #![tactic(auto)]
+
 ghost use Rattle.std.specs.Prelude.{◌+◌, ◌<◌, ◌≡◌, [], ◌∷◌, get_or};
 ghost use Rattle.base_bytes.specs.Put.{Written};
 ghost use Rattle.text_form.specs.Form.{flag_text, mark_piece, word_piece, piece, words_after, mode_after, is_mark, takes_value, value_after, formed};

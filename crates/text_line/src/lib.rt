@@ -1,5 +1,6 @@
 // The numbers of a line of text.
 #![tactic(auto)]
+
 ghost use Rattle.std.specs.Prelude.{◌++◌};
 ghost use Rattle.text_numeral.specs.Ascii.{ascii};
 ghost use Rattle.text_numeral.specs.Numeral.{numeral};

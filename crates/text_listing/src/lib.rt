@@ -1,5 +1,6 @@
 // The lines of a listing besides those of frames. Each is put as far as there is room for it.
 #![tactic(auto)]
+
 ghost use Rattle.base_bytes.specs.Put.{Written};
 ghost use Rattle.text_line.specs.Line.{line_text};
 ghost use Rattle.text_listing.specs.Lines.{column_line, refused_line, file_refused_line, last_line};

@@ -1,5 +1,6 @@
 // Numbers as text: put into a buffer as other bytes are.
 #![tactic(auto)]
+
 ghost use Rattle.base_bytes.specs.Put.{Written};
 ghost use Rattle.text_numeral.specs.Numeral.{numeral};
 

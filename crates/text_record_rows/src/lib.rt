@@ -1,6 +1,7 @@
 // A header, a state's slots and a segment record as rows of numbers, as text_setting_rows has the settings: an enum stands
 // by its number.
 #![tactic(auto)]
+
 ghost use Rattle.std.specs.Prelude.{◌≡◌};
 ghost use Rattle.text_record_rows.specs.Records.{color_row, picture_row, source_row, end_row, slot_row, segment_row};
 

@@ -1,5 +1,6 @@
 // A header, a state and the segment records as text: docs/LONG-FORM.md. Each row of numbers has its form.
 #![tactic(auto)]
+
 ghost use Rattle.std.specs.Prelude.{◌≡◌};
 ghost use Rattle.base_bytes.specs.Put.{Written};
 ghost use Rattle.text_records.specs.Header.{profile_text, color_text, opening_text, picture_text, source_text, end_text, front_text, settings_text, header_text};

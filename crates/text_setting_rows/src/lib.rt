@@ -1,6 +1,7 @@
 // The settings of a frame as rows of numbers, for what prints them and for what digests them: a field after the other in
 // the record's order, a flag as 0 or 1, a number with a sign lifted.
 #![tactic(auto)]
+
 ghost use Rattle.std.specs.Prelude.{◌≡◌};
 ghost use Rattle.text_signed.specs.Number.{lifted};
 ghost use Rattle.text_setting_rows.specs.Settings.{

@@ -1,5 +1,6 @@
 // The settings of a frame as text: docs/LONG-FORM.md. Each row of numbers has its form.
 #![tactic(auto)]
+
 ghost use Rattle.base_bytes.specs.Put.{Written};
 ghost use Rattle.text_settings.specs.Settings.{filter_text, quantization_text, switches_text, features_text, data_text, segmentation_text};
 

@@ -1,5 +1,6 @@
 // Numbers with a sign, in a row of numbers without one, and as text.
 #![tactic(auto)]
+
 ghost use Rattle.std.specs.Prelude.{◌≡◌};
 ghost use Rattle.base_bytes.specs.Put.{Written};
 ghost use Rattle.text_signed.specs.Number.{lifted, lowered_text};

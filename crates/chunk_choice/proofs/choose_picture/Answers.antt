@@ -1,4 +1,3 @@
-use borrow.Author.Rules.{rules}
 use Rattle.chunk_choice.proofs.choose_picture.Goals as goal
 
 pub returns-then-yes : goal.returns-then-yes

@@ -1,4 +1,3 @@
-use borrow.Author.Rules.{rules}
 use Rattle.chunk_index.proofs.Walk.{one_placed}
 use Rattle.chunk_index.proofs.one_frame.Goals as goal
 

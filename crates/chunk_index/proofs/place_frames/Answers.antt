@@ -1,10 +1,7 @@
-use borrow.Author.Rules.{rules}
-use Prim.Native.Nat.{◌-◌}
 use mathlib.Core.Path.{◌∙◌}
 use native.Mathlib.Omega.{arith}
-use Rattle.chunk_index.specs.Layout.{laid}
 use Rattle.chunk_index.proofs.Sizes.{size_place}
-use Rattle.chunk_index.proofs.Walk.{Walked, walked_none, walked_more, walked_past, walked_all}
+use Rattle.chunk_index.proofs.Walk.{walked_none, walked_more, walked_past, walked_all}
 use Rattle.chunk_index.proofs.place_frames.Goals as goal
 
 pub loop-i-init : goal.loop-i-init

@@ -1,4 +1,3 @@
-use borrow.Author.Rules.{rules}
 use Rattle.chunk_index.proofs.Sizes.{size_read, size_there}
 use Rattle.chunk_index.proofs.read_size.Goals as goal
 

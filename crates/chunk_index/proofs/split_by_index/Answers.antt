@@ -1,4 +1,3 @@
-use borrow.Author.Rules.{rules}
 use native.Mathlib.Omega.{arith}
 use Rattle.chunk_index.proofs.Sizes.{sizes_small}
 use Rattle.chunk_index.proofs.Cases.{announced_cut, announced_indexed, announced_whole}

@@ -1,4 +1,3 @@
-use borrow.Author.Rules.{rules}
 use mathlib.Core.Path.{sym, ◌∙◌}
 use Rattle.chunk_index.proofs.Cases.{split_empty, split_whole}
 use Rattle.chunk_index.proofs.split_chunk.Goals as goal

@@ -6,7 +6,6 @@ use Rattle.part_color.proofs.Steps.{intra_color_step, intra_color_stop}
 use Rattle.part_sizes.proofs.Steps.{sizes_step, sizes_stop}
 use Rattle.header_picture.specs.IntraOnly.{read_intra_only}
 use Rattle.header_picture.proofs.Records.{refresh_fits, intra_only_read}
-use borrow.Author.Rules.{rules}
 use Rattle.header_picture.proofs.parse_intra_only.Goals as goal
 
 pub returns-in_default : goal.returns-in_default

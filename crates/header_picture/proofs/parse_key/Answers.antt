@@ -4,7 +4,6 @@ use Rattle.part_color.proofs.Steps.{color_step, color_stop}
 use Rattle.part_sizes.proofs.Steps.{sizes_step, sizes_stop}
 use Rattle.header_picture.specs.Key.{read_key}
 use Rattle.header_picture.proofs.Records.{key_read}
-use borrow.Author.Rules.{rules}
 use Rattle.header_picture.proofs.parse_key.Goals as goal
 
 pub returns-in_default : goal.returns-in_default

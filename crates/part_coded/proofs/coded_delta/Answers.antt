@@ -1,7 +1,6 @@
 use Rattle.base_syntax.proofs.Steps.{reading}
 use Rattle.grammar_tables.specs.Reading.{read_delta}
 use Rattle.part_coded.proofs.Records.{narrow, short_narrow, value_narrow, magnitude_small, delta_read}
-use borrow.Author.Rules.{rules}
 use Rattle.part_coded.proofs.coded_delta.Goals as goal
 
 pub returns-in_default : goal.returns-in_default

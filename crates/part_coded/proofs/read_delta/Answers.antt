@@ -1,4 +1,3 @@
-use borrow.Author.Rules.{rules}
 use Rattle.part_coded.proofs.Records.{too_wide, wide_enough}
 use Rattle.part_coded.proofs.read_delta.Goals as goal
 

@@ -1,7 +1,6 @@
 use Rattle.base_syntax.proofs.Steps.{reading}
 use Rattle.grammar_tables.specs.Reading.{read_prob}
 use Rattle.part_coded.proofs.Records.{prob_fits, prob_read, prob_none}
-use borrow.Author.Rules.{rules}
 use Rattle.part_coded.proofs.read_prob.Goals as goal
 
 pub returns-in_default : goal.returns-in_default

@@ -3,7 +3,6 @@ use Rattle.base_syntax.proofs.Steps.{reading}
 use Rattle.base_syntax.proofs.Binds.{as_parts}
 use Rattle.part_color.proofs.Records.{color_read}
 use Rattle.part_sampling.proofs.Steps.{sampling_step, sampling_stop}
-use borrow.Author.Rules.{rules}
 use Rattle.part_color.proofs.parse_color_config.Goals as goal
 
 pub returns-in_default : goal.returns-in_default

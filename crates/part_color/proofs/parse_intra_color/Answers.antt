@@ -1,5 +1,4 @@
 use Rattle.part_color.proofs.Records.{intra_coded, intra_fixed}
-use borrow.Author.Rules.{rules}
 use Rattle.part_color.proofs.parse_intra_color.Goals as goal
 
 pub returns-then-profile-gt0 : goal.returns-then-profile-gt0

@@ -1,6 +1,5 @@
 use Rattle.grammar_tables.specs.Tables.{feature_signed}
 use Rattle.part_feature.proofs.Tables.{past_table}
-use borrow.Author.Rules.{rules}
 use mathlib.Core.Path.{refl}
 use Rattle.part_feature.proofs.feature_signed.Goals as goal
 

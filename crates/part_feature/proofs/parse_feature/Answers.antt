@@ -2,7 +2,6 @@ use Rattle.base_syntax.proofs.Steps.{reading}
 use Rattle.grammar_tables.specs.Reading.{read_feature}
 use Rattle.part_feature.proofs.Records.{value_fits, feature_read}
 use Rattle.part_feature.proofs.Tables.{value_step, value_stop}
-use borrow.Author.Rules.{rules}
 use Rattle.part_feature.proofs.parse_feature.Goals as goal
 
 pub returns-in_default : goal.returns-in_default

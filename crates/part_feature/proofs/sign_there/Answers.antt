@@ -1,5 +1,4 @@
 use Rattle.part_feature.proofs.Tables.{sign_coded}
-use borrow.Author.Rules.{rules}
 use Rattle.part_feature.proofs.sign_there.Goals as goal
 
 pub returns-then-enabled : goal.returns-then-enabled

@@ -3,7 +3,6 @@ use Rattle.part_loop_deltas.specs.LoopDeltas.{read_loop_deltas}
 use Rattle.part_loop_deltas.proofs.Steps.{refs_step, refs_stop, modes_step, modes_stop}
 use Rattle.part_loop_deltas.proofs.Readings.{group_left}
 use Rattle.part_loop_deltas.proofs.Records.{deltas_moved, deltas_kept}
-use borrow.Author.Rules.{rules}
 use Rattle.part_loop_deltas.proofs.parse_loop_deltas.Goals as goal
 
 pub returns-in_default : goal.returns-in_default

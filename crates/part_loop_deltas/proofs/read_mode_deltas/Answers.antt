@@ -2,7 +2,6 @@ use Rattle.grammar_tables.specs.Reading.{read_mode_deltas}
 use Rattle.part_coded.proofs.Steps.{delta_step, delta_stop}
 use Rattle.part_loop_deltas.proofs.Readings.{twice}
 use Rattle.part_loop_deltas.proofs.Records.{mode_deltas}
-use borrow.Author.Rules.{rules}
 use Rattle.part_loop_deltas.proofs.read_mode_deltas.Goals as goal
 
 pub returns-in_default : goal.returns-in_default

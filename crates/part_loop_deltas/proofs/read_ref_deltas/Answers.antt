@@ -2,7 +2,6 @@ use Rattle.grammar_tables.specs.Reading.{read_ref_deltas}
 use Rattle.part_coded.proofs.Steps.{delta_step, delta_stop}
 use Rattle.part_loop_deltas.proofs.Readings.{four_times}
 use Rattle.part_loop_deltas.proofs.Records.{ref_deltas}
-use borrow.Author.Rules.{rules}
 use Rattle.part_loop_deltas.proofs.read_ref_deltas.Goals as goal
 
 pub returns-in_default : goal.returns-in_default

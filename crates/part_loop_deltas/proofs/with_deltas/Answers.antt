@@ -1,5 +1,4 @@
 use Rattle.part_loop_deltas.specs.LoopDeltas.{with_deltas}
-use borrow.Author.Rules.{rules}
 use Rattle.part_loop_deltas.proofs.with_deltas.Goals as goal
 
 pub returns : goal.returns

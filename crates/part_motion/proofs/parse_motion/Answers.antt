@@ -2,7 +2,6 @@ use Rattle.base_syntax.proofs.Steps.{reading}
 use Rattle.part_motion.proofs.Steps.{filter_step, filter_stop}
 use Rattle.part_motion.specs.Motion.{read_motion}
 use Rattle.part_motion.proofs.Records.{motion_read}
-use borrow.Author.Rules.{rules}
 use Rattle.part_motion.proofs.parse_motion.Goals as goal
 
 pub returns-in_default : goal.returns-in_default

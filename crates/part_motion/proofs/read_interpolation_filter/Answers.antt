@@ -1,7 +1,6 @@
 use Rattle.base_syntax.proofs.Steps.{reading}
 use Rattle.part_motion.specs.Filter.{read_filter}
 use Rattle.part_motion.proofs.Records.{switchable, literal}
-use borrow.Author.Rules.{rules}
 use Rattle.part_motion.proofs.read_interpolation_filter.Goals as goal
 
 pub returns-in_default : goal.returns-in_default

@@ -1,6 +1,5 @@
 use Rattle.base_syntax.proofs.Steps.{reading}
 use Rattle.grammar_tables.specs.Reading.{read_sync}
-use borrow.Author.Rules.{rules}
 use Rattle.part_opening.proofs.parse_frame_sync_code.Goals as goal
 
 pub returns-in_default : goal.returns-in_default

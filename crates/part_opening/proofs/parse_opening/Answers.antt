@@ -2,7 +2,6 @@ use Rattle.base_syntax.proofs.Steps.{reading}
 use Rattle.part_opening.specs.Opening.{read_opening}
 use Rattle.part_opening.proofs.Records.{slot_fits, opening_read}
 use Rattle.part_opening.proofs.Steps.{profile_step, profile_stop}
-use borrow.Author.Rules.{rules}
 use Rattle.part_opening.proofs.parse_opening.Goals as goal
 
 pub returns-in_default : goal.returns-in_default

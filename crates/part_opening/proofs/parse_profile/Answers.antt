@@ -1,7 +1,6 @@
 use Rattle.base_syntax.proofs.Steps.{reading}
 use Rattle.part_opening.specs.Profile.{read_profile}
 use Rattle.part_opening.proofs.Records.{twice_fits, profile_fits}
-use borrow.Author.Rules.{rules}
 use Rattle.part_opening.proofs.parse_profile.Goals as goal
 
 pub returns-in_default : goal.returns-in_default

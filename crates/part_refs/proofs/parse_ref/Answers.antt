@@ -2,7 +2,6 @@ use Rattle.base_syntax.proofs.Steps.{reading}
 use Rattle.part_refs.specs.Refs.{ref_of}
 use Rattle.grammar_tables.specs.Reading.{read_ref}
 use Rattle.part_refs.proofs.Records.{byte_fits}
-use borrow.Author.Rules.{rules}
 use Rattle.part_refs.proofs.parse_ref.Goals as goal
 
 pub returns-in_default : goal.returns-in_default

@@ -1,7 +1,6 @@
 use Rattle.grammar_tables.specs.Reading.{read_refs}
 use Rattle.part_refs.proofs.Steps.{ref_step, ref_stop}
 use Rattle.part_refs.proofs.Records.{refs_read}
-use borrow.Author.Rules.{rules}
 use Rattle.part_refs.proofs.parse_refs.Goals as goal
 
 pub returns-in_default : goal.returns-in_default

@@ -2,7 +2,6 @@ use Rattle.base_syntax.proofs.Steps.{reading}
 use Rattle.part_refs.proofs.Steps.{refs_step, refs_stop}
 use Rattle.part_refs.specs.Sources.{read_sources}
 use Rattle.part_refs.proofs.Records.{byte_fits, sources_read}
-use borrow.Author.Rules.{rules}
 use Rattle.part_refs.proofs.parse_sources.Goals as goal
 
 pub returns-in_default : goal.returns-in_default

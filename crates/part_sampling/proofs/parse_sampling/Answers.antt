@@ -1,7 +1,6 @@
 use Rattle.base_syntax.proofs.Steps.{reading}
 use Rattle.part_sampling.specs.Sampling.{read_sampling}
 use Rattle.part_sampling.proofs.Records.{sampling_read}
-use borrow.Author.Rules.{rules}
 use Rattle.part_sampling.proofs.parse_sampling.Goals as goal
 
 pub returns-in_default : goal.returns-in_default

@@ -1,5 +1,4 @@
 use Rattle.part_sampling.proofs.Records.{picking}
-use borrow.Author.Rules.{rules}
 use Rattle.part_sampling.proofs.range_of.Goals as goal
 
 pub returns-then-space-eq-CS_RGB : goal.returns-then-space-eq-CS_RGB

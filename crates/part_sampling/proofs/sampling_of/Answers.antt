@@ -1,4 +1,3 @@
-use borrow.Author.Rules.{rules}
 use Rattle.part_sampling.proofs.sampling_of.Goals as goal
 
 pub returns : goal.returns

@@ -4,7 +4,6 @@ use Rattle.part_segment_data.specs.Data.{read_data}
 use Rattle.part_segment_data.proofs.Records.{data_read, data_kept}
 use Rattle.part_segment_map.proofs.Records.{old_kept}
 use Rattle.part_segment_map.proofs.Steps.{there_step, there_stop, absent}
-use borrow.Author.Rules.{rules}
 use Rattle.part_segment_data.proofs.parse_data.Goals as goal
 
 pub returns-in_default : goal.returns-in_default

@@ -1,7 +1,6 @@
-use Prim.Native.Nat.{◌-◌}
 use native.Mathlib.Omega.{arith}
 use borrow.Author.Rules.{rules}
-use Rattle.part_segment_data.proofs.Filling.{FeaturesFilling, features_start, features_turn, features_cut, features_end}
+use Rattle.part_segment_data.proofs.Filling.{features_start, features_turn, features_cut, features_end}
 use Rattle.part_segment_data.proofs.parse_features.Goals as goal
 
 pub loop-k-init : goal.loop-k-init

@@ -3,7 +3,6 @@ use Rattle.base_syntax.proofs.Steps.{reading}
 use Rattle.part_segment_map.specs.Map.{read_map}
 use Rattle.part_segment_map.proofs.Steps.{probs_step, probs_stop}
 use Rattle.part_segment_map.proofs.Records.{map_read, map_kept, old_kept}
-use borrow.Author.Rules.{rules}
 use Rattle.part_segment_map.proofs.parse_map.Goals as goal
 
 pub returns-in_default : goal.returns-in_default

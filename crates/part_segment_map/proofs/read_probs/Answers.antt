@@ -1,7 +1,5 @@
-use Prim.Native.Nat.{◌-◌}
 use native.Mathlib.Omega.{arith}
-use borrow.Author.Rules.{rules}
-use Rattle.part_segment_map.proofs.Filling.{ProbsFilling, probs_start, probs_turn, probs_cut, probs_end}
+use Rattle.part_segment_map.proofs.Filling.{probs_start, probs_turn, probs_cut, probs_end}
 use Rattle.part_segment_map.proofs.read_probs.Goals as goal
 
 pub loop-i-init : goal.loop-i-init

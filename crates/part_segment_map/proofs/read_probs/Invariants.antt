@@ -1,7 +1,4 @@
-use Prim.Native.Nat.{◌-◌}
-use native.Mathlib.Omega.{arith}
-use borrow.Author.Rules.{rules}
-use Rattle.part_segment_map.proofs.Filling.{ProbsFilling, probs_start, probs_turn, probs_cut, probs_end}
+use Rattle.part_segment_map.proofs.Filling.{ProbsFilling}
 use Rattle.part_segment_map.proofs.read_probs.Given as goal
 
 abbrev pub invariant-loop-i : goal.invariant-loop-i

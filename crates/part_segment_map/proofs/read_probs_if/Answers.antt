@@ -1,5 +1,4 @@
 use Rattle.part_segment_map.proofs.Records.{probs_there, probs_none}
-use borrow.Author.Rules.{rules}
 use Rattle.part_segment_map.proofs.read_probs_if.Goals as goal
 
 pub returns-then-there : goal.returns-then-there

@@ -5,7 +5,6 @@ use Rattle.part_segment_map.proofs.Records.{old_kept, none_kept}
 use Rattle.part_segment_map.proofs.Steps.{there_step, there_stop, absent}
 use Rattle.part_segmentation.proofs.Parts.{in_parts_lem}
 use Rattle.part_segmentation.proofs.Records.{off_read, parts_read}
-use borrow.Author.Rules.{rules}
 use Rattle.part_segmentation.proofs.parse_segmentation_params.Goals as goal
 
 pub returns-in_default : goal.returns-in_default

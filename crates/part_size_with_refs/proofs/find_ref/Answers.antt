@@ -1,6 +1,5 @@
-use Prim.Native.Nat.{◌-◌}
 use borrow.Author.Rules.{rules}
-use Rattle.part_coded.proofs.Run.{Counted, counted_none, counted_more, counted_end, counted_short}
+use Rattle.part_coded.proofs.Run.{counted_none, counted_more, counted_end, counted_short}
 use Rattle.part_size_with_refs.proofs.WithRefs.{all_counted, found_run}
 use Rattle.part_size_with_refs.proofs.find_ref.Goals as goal
 

@@ -1,7 +1,6 @@
 use Rattle.base_syntax.proofs.Steps.{reading, sum_fits}
 use Rattle.grammar_tables.specs.Reading.{read_size}
 use Rattle.grammar_tables.specs.Header.{size_of}
-use borrow.Author.Rules.{rules}
 use Rattle.part_sizes.proofs.parse_frame_size.Goals as goal
 
 pub returns-in_default : goal.returns-in_default

@@ -2,7 +2,6 @@ use Rattle.base_syntax.proofs.Steps.{reading}
 use Rattle.grammar_tables.specs.Reading.{read_render}
 use Rattle.part_sizes.proofs.Steps.{size_or_step, size_or_stop}
 use Rattle.part_sizes.proofs.Records.{render_read}
-use borrow.Author.Rules.{rules}
 use Rattle.part_sizes.proofs.parse_render_size.Goals as goal
 
 pub returns-in_default : goal.returns-in_default

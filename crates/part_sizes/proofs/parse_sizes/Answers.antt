@@ -2,7 +2,6 @@ use Rattle.base_syntax.proofs.Steps.{tail}
 use Rattle.part_sizes.specs.Sizes.{read_sizes}
 use Rattle.part_sizes.proofs.Steps.{size_step, size_stop}
 use Rattle.part_sizes.proofs.Records.{sizes_read}
-use borrow.Author.Rules.{rules}
 use Rattle.part_sizes.proofs.parse_sizes.Goals as goal
 
 pub returns-in_default : goal.returns-in_default

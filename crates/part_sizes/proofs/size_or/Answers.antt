@@ -1,5 +1,4 @@
 use Rattle.part_sizes.proofs.Records.{size_there, size_not_there}
-use borrow.Author.Rules.{rules}
 use Rattle.part_sizes.proofs.size_or.Goals as goal
 
 pub returns-then-there : goal.returns-then-there

@@ -1,5 +1,4 @@
 use Rattle.part_traits.proofs.Records.{parallel_read}
-use borrow.Author.Rules.{rules}
 use Rattle.part_traits.proofs.is_parallel.Goals as goal
 
 pub returns-else-error_resilient_mode : goal.returns-else-error_resilient_mode

@@ -1,7 +1,6 @@
 use Rattle.base_syntax.proofs.Steps.{reading}
 use Rattle.part_traits.specs.Context.{read_context}
 use Rattle.part_traits.proofs.Records.{idx_fits, context_read}
-use borrow.Author.Rules.{rules}
 use Rattle.part_traits.proofs.parse_context.Goals as goal
 
 pub returns-in_default : goal.returns-in_default

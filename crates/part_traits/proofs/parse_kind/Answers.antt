@@ -1,7 +1,6 @@
 use Rattle.base_syntax.proofs.Steps.{reading}
 use Rattle.part_traits.specs.Kind.{read_kind, kind_of}
 use Rattle.part_traits.proofs.Records.{reset_fits}
-use borrow.Author.Rules.{rules}
 use Rattle.part_traits.proofs.parse_kind.Goals as goal
 
 pub returns-in_default : goal.returns-in_default

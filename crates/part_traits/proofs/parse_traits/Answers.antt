@@ -1,6 +1,5 @@
 use Rattle.base_syntax.proofs.Steps.{reading}
 use Rattle.part_traits.specs.Traits.{read_traits, traits_of}
-use borrow.Author.Rules.{rules}
 use Rattle.part_traits.proofs.parse_traits.Goals as goal
 
 pub returns-in_default : goal.returns-in_default

@@ -1,5 +1,4 @@
 use native.Mathlib.Omega.{arith}
-use borrow.Author.Rules.{rules}
 use mir.Facts.{to_z-of_z}
 use Rattle.segment_clamp.proofs.Casts.{byte}
 use Rattle.segment_clamp.proofs.Ranges.{clamp_low, clamp_high, clamp_mid, between}

@@ -1,5 +1,4 @@
 use mathlib.Core.Path.{◌∙◌}
-use borrow.Author.Rules.{rules}
 use mir.Facts.{to_z-of_z}
 use Rattle.segment_clamp.proofs.Casts.{byte, wide, sum}
 use Rattle.segment_clamp.proofs.moved_by.Goals as goal

@@ -1,4 +1,3 @@
-use borrow.Author.Rules.{rules}
 use Rattle.segment_features.proofs.active_at.Goals as goal
 
 pub returns-then-enabled : goal.returns-then-enabled

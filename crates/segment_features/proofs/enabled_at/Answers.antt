@@ -1,4 +1,3 @@
-use borrow.Author.Rules.{rules}
 use Rattle.base_segmentation.proofs.Features.{features}
 use Rattle.segment_features.proofs.enabled_at.Goals as goal
 

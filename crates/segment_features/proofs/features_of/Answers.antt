@@ -1,4 +1,3 @@
-use borrow.Author.Rules.{rules}
 use mir.Syntax.{w16}
 use Rattle.segment_clamp.proofs.Casts.{given}
 use Rattle.segment_features.specs.Features.{features_in}

@@ -1,5 +1,4 @@
 use mathlib.Core.Path.{refl}
-use borrow.Author.Rules.{rules}
 use Rattle.segment_grid.specs.Grid.{grid_of}
 use Rattle.segment_grid.proofs.grid_of.Goals as goal
 

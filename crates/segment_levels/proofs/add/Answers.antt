@@ -1,5 +1,4 @@
 use mathlib.Core.Path.{◌∙◌}
-use borrow.Author.Rules.{rules}
 use mir.Facts.{to_z-of_z}
 use Rattle.segment_levels.specs.Levels.{level_moved}
 use Rattle.segment_levels.proofs.add.Goals as goal

@@ -1,4 +1,3 @@
-use borrow.Author.Rules.{rules}
 use borrow.Author.Tests.{ne_eqb}
 use Rattle.segment_levels.specs.Once.{kept}
 use Rattle.segment_levels.proofs.keep.Goals as goal

@@ -1,4 +1,3 @@
-use borrow.Author.Rules.{rules}
 use borrow.Author.Tests.{ne_eqb}
 use Rattle.segment_levels.specs.Levels.{levels_at}
 use Rattle.segment_levels.proofs.levels_at.Goals as goal

@@ -1,4 +1,3 @@
-use borrow.Author.Rules.{rules}
 use mir.Facts.{to_z-of_z}
 use Rattle.segment_levels.specs.Once.{levels_from}
 use Rattle.segment_levels.proofs.levels_of.Goals as goal

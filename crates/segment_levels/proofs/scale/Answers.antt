@@ -1,4 +1,3 @@
-use borrow.Author.Rules.{rules}
 use mir.Facts.{to_z-of_z, sfits_widen}
 use mir.Syntax.{w16}
 use mir.Val.{SFits}

@@ -1,5 +1,4 @@
 use mathlib.Core.Path.{◌∙◌}
-use borrow.Author.Rules.{rules}
 use mir.Syntax.{w8, w16}
 use Rattle.segment_clamp.proofs.Casts.{given}
 use Rattle.segment_quant.specs.Quant.{dc_quant}

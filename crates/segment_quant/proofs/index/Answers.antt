@@ -1,5 +1,4 @@
 use mathlib.Core.Path.{◌∙◌}
-use borrow.Author.Rules.{rules}
 use mir.Facts.{to_z-of_z, sfits_widen}
 use mir.Syntax.{w16}
 use mir.Val.{SFits}

@@ -1,5 +1,4 @@
 use mathlib.Core.Path.{◌∙◌}
-use borrow.Author.Rules.{rules}
 use mir.Facts.{to_z-of_z}
 use Rattle.segment_quant.specs.Quant.{qindex_of}
 use Rattle.segment_quant.proofs.qindex_of.Goals as goal

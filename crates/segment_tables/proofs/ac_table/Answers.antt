@@ -1,4 +1,3 @@
-use borrow.Author.Rules.{rules}
 use Rattle.segment_tables.specs.Lists.{ac_qlookup8, ac_qlookup10, ac_qlookup12}
 use Rattle.segment_tables.specs.Tables.{ac_row, ac_table}
 use Rattle.segment_tables.proofs.ac_table.Goals as goal

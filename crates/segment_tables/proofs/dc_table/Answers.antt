@@ -1,4 +1,3 @@
-use borrow.Author.Rules.{rules}
 use Rattle.segment_tables.specs.Lists.{dc_qlookup8, dc_qlookup10, dc_qlookup12}
 use Rattle.segment_tables.specs.Tables.{dc_row, dc_table}
 use Rattle.segment_tables.proofs.dc_table.Goals as goal

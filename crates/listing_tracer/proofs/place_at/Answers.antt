@@ -1,0 +1,12 @@
+use mathlib.Core.Path.{◌≡◌}
+use native.Mathlib.Omega.{arith}
+use lib.ListN.{length}
+use borrow.Author.Rules.{rules}
+use Rattle.listing_tracer.proofs.Steps.{past_eight}
+use Rattle.listing_tracer.proofs.place_at.Goals as goal
+
+pub returns-else-i-lt8 : goal.returns-else-i-lt8
+returns-else-i-lt8 c =
+    let a = c.args in
+    let eight : length a.read.at ≡ 8 = search rules in
+    past_eight a.read.at a.i eight (omega arith)

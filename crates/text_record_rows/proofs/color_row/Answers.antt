@@ -1,0 +1,6 @@
+use Rattle.text_record_rows.specs.Records.{color_row}
+use Rattle.text_record_rows.proofs.color_row.Goals as goal
+
+pub returns : goal.returns
+unfolding color_row
+returns c = rw (c.number.ensures, c.number-2.ensures, c.number-3.ensures)
