@@ -58,7 +58,7 @@ def frame(kind):
 
 FORMS = {name: form(name) for name in ("chunk", "refused", "bits", "columns", "levels")}
 FRAMES = {kind: frame(kind) for kind in ("key", "intra", "inter")}
-STATES = {name: name for name in ("freshState", "afterK", "eight")}
+STATES = {name: name for name in ("fresh_state", "after_k", "eight")}
 
 
 def rows():
@@ -109,7 +109,7 @@ def before(state, names):
     if state == "eight":
         sizes = names["sizes"]
         return [key(sizes[0])] + [intra(sizes[slot], slot) for slot in range(1, 8)]
-    return [names["k"]] if state == "afterK" else []
+    return [names["k"]] if state == "after_k" else []
 
 
 # What a reader answers to the last chunk of a series.

@@ -24,15 +24,13 @@ ROOT = os.path.abspath(os.path.join(HERE, "..", ".."))
 ROWS = os.path.join(ROOT, "crates", "test_segment_rows", "specs", "Rows.antt")
 
 TOP = """\
--- Settings, and the eight records that the Rust makes of them from `oldRecords`. The numbers are the Rust's:
+-- Settings, and the eight records that the Rust makes of them from `old_records`. The numbers are the Rust's:
 -- tests/segments/rows.py wrote this file from its answers, and the gate compares it with them.
 -- Assumes nothing.
-use mathlib.Core.Bool.{true, false}
-use mathlib.Core.List.{List, [], _∷_}
-use lib.IntN.{pos}
-use Rattle·base_enums.specs.declared.BitDepth.the-variants.{Depth8, Depth10, Depth12}
-use Rattle·segment_records.specs.declared.Segmentation.{Segmentation}
-use Rattle·test_segment_rows·specs.specs.Settings.{minus, off, on, features, filter, quantizers, segments, headerWith, segment, SegmentRow}
+use Rattle.std.specs.Prelude.{true, false, List, [], ◌∷◌, pos}
+use Rattle.base_enums.specs.declared.BitDepth.TheVariants.{Depth8, Depth10, Depth12}
+use Rattle.segment_records.specs.declared.Segmentation.{Segmentation}
+use Rattle.test_segment_rows.specs.Settings.{minus, off, on, features, filter, quantizers, segments, header_with, segment, SegmentRow}
 
 """
 
@@ -45,13 +43,13 @@ RELATIVE = [(None, None, None, None), (-25, None, None, None), (None, -9, None, 
 # What the row is for, its name, and its settings: depth; level, deltas enabled, reference deltas, mode deltas; base,
 # y-dc, uv-dc and uv-ac; segmentation on, absolute, features.
 SETTINGS = [
-    ("absolute features at level 31, where a delta counts once", "absoluteRow", "Depth8",
+    ("absolute features at level 31, where a delta counts once", "absolute_row", "Depth8",
      (31, True, [5, -3, 7, -11], [2, -6]), (60, 3, -7, 11), (True, True, ABSOLUTE)),
-    ("features that are added, at level 40, where a delta counts twice", "relativeRow", "Depth10",
+    ("features that are added, at level 40, where a delta counts twice", "relative_row", "Depth10",
      (40, True, [4, 1, -2, -8], [-3, 6]), (100, -5, 9, -14), (True, False, RELATIVE)),
-    ("segmentation off, and no deltas", "offRow", "Depth12",
+    ("segmentation off, and no deltas", "off_row", "Depth12",
      (63, False, [1, 0, -1, -1], [7, 9]), (250, 15, -15, 8), (False, True, ABSOLUTE)),
-    ("level 0", "zeroRow", "Depth12",
+    ("level 0", "zero_row", "Depth12",
      (0, True, [9, 8, 7, 6], [5, 4]), (5, -9, -2, 12), (True, True, ABSOLUTE)),
 ]
 
@@ -129,7 +127,7 @@ def settings_lines(depth, lf, quant, seg):
     level, deltas, refs, modes = lf
     base, *added = quant
     enabled, absolute, fours = seg
-    yield f"          headerWith {depth}"
+    yield f"          header_with {depth}"
     yield f"          (filter {level} {flag(deltas)} {signed_items(refs)} {signed_items(modes)})"
     yield f"          (quantizers {base} {' '.join(map(signed, added))})"
     yield f"          (segments {flag(enabled)} {flag(absolute)} ("
@@ -146,7 +144,7 @@ def row_lines(what, name, settings, records):
 
 
 def text(after):
-    lines = [TOP + "abbrev pub oldRecords : List Segmentation\noldRecords ="]
+    lines = [TOP + "abbrev pub old_records : List Segmentation\nold_records ="]
     lines.append(item_lines((segment(numbers_of(s)) for s in old_records()), " " * 4))
     for (what, name, *settings), records in zip(SETTINGS, after):
         lines += row_lines(what, name, settings, records)
