@@ -6,13 +6,20 @@ usage: python3 tools/spelling.py [ROOT]      once, after port.py: rewrites specs
 
 What is renamed is what specs/ and proofs/ declare: `readBits` and `read-value` become `read_bits` and `read_value`.
 Functions of src/, types, modules, and names of the library stay. Where two names would fall together, the definition
-gets the plain name and the lemma `_lem` after it.
+gets the plain name and the lemma `_lem` after it; a field of a record of specs/ may share its name with what is no field.
 """
 import os
 import re
 import sys
 from collections import defaultdict
 
+# Fields, which fall together with a constructor or a function, and a list of bytes that would with a constructor.
+CHOSEN = {
+    "frame-marker": "frame_marker",
+    "feature-enabled": "feature_enabled",
+    "header-bytes": "header_bytes",
+    "no-file": "no_file_bytes",
+}
 TOKEN = re.compile(r"[^\s(){}\[\].;,:\"«»\\λ|`@#]+")
 DECLARED = re.compile(r"^\s*(?:(?:abbrev|unfoldable|pub|ruleset)\s+)*([^\s(){}:.;,\"]+)\s+:(?:\s|$)")
 
@@ -71,6 +78,9 @@ def renamings(root):
     to, took = {}, defaultdict(list)
     for name in names:
         if not re.match(r"[a-z]", name) or name in lib:
+            continue
+        if name in CHOSEN:
+            to[name] = CHOSEN[name]
             continue
         took[snake(name)].append(name)
     for new, olds in took.items():

@@ -1,6 +1,6 @@
 -- What is answered to a frame of a chunk, at an offset and of a size.
 -- Assumes nothing.
-use Rattle.std.specs.Prelude.{ℕ, ◌-◌, Bool, ◌&&◌, List, leb, length, take, drop}
+use Rattle.std.specs.Prelude.{ℕ, List, take, drop}
 use Rattle.base_shared.specs.Choice.{pick}
 use Rattle.base_types.specs.Header.{default_header}
 use Rattle.base_types.specs.declared.state.ReaderState.{ReaderState}

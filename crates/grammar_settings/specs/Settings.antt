@@ -63,7 +63,7 @@ prob_of v = pick (flag v.coded) v.prob 255
 
 -- a feature's value is unsigned before its sign, and 0 where the feature is disabled
 abbrev pub enabled_of : FeatureValues → Bool
-enabled_of v = flag v.feature_enabled_lem
+enabled_of v = flag v.feature_enabled
 
 abbrev pub data_value : FeatureValues → ℤ
 data_value v = signed v.feature_value (flag v.feature_sign)

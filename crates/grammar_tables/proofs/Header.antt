@@ -60,7 +60,7 @@ frame_nil slots profile = refl
 pub header_reads : (slots : List FrameSize) → Reads Any (header_fields slots) (read_header slots)
 unfolding header_fields read_header group_if
 header_reads slots =
-    demand (λ (v : HeaderValues). v.frame_marker_lem) (omega arith) λ m.
+    demand (λ (v : HeaderValues). v.frame_marker) (omega arith) λ m.
     take (λ (v : HeaderValues). v.profile_low_bit) λ l.
     take (λ (v : HeaderValues). v.profile_high_bit) λ h.
     take_if (eqb (h * 2 + l) 3) (λ v. eqb (header_profile v) 3) (λ v k. rw (k.1, k.0.1)) _ 1 (λ (v : HeaderValues). v.reserved_zero) λ z.

@@ -200,9 +200,9 @@ probs_size x y n v = many_size (λ i. prob_fields (item x i) (item y i)) 9 (λ i
 pub feature_reads : (i j : ℕ) → Reads Any (feature_fields i j) (read_feature i j)
 unfolding feature_fields read_feature
 feature_reads i j =
-    take (λ (v : FeatureValues). v.feature_enabled_lem) λ e.
-    take_if (flag e) (λ (v : FeatureValues). flag v.feature_enabled_lem) (λ v k. rw k.1) (feature "feature_value" i j) (feature_bits j) (λ (v : FeatureValues). v.feature_value) λ m.
-    take_if (flag e && feature_signed j) (λ (v : FeatureValues). flag v.feature_enabled_lem && feature_signed j) (λ v k. rw k.0.1) (feature "feature_sign" i j) 1 (λ (v : FeatureValues). v.feature_sign) λ g.
+    take (λ (v : FeatureValues). v.feature_enabled) λ e.
+    take_if (flag e) (λ (v : FeatureValues). flag v.feature_enabled) (λ v k. rw k.1) (feature "feature_value" i j) (feature_bits j) (λ (v : FeatureValues). v.feature_value) λ m.
+    take_if (flag e && feature_signed j) (λ (v : FeatureValues). flag v.feature_enabled && feature_signed j) (λ v k. rw k.0.1) (feature "feature_sign" i j) 1 (λ (v : FeatureValues). v.feature_sign) λ g.
     done _ (search) (λ b k. rw (← k.1, ← k.0.1, ← k.0.0.1))
 
 pub bits_small : (j : ℕ) → feature_bits j ≤ 8
@@ -216,7 +216,7 @@ bits_small (suc (suc (suc (suc j)))) = omega arith
 feature_size : (i j : ℕ) (v : FeatureValues) → size (feature_fields i j v) ≤ 10
 unfolding feature_fields
 feature_size i j v =
-    let on = flag v.feature_enabled_lem in
+    let on = flag v.feature_enabled in
     omega (arith, bits_small j, size_if on (feature_bits j), size_if (on && feature_signed j) 1)
 
 features_reads : Reads Any features_fields read_features

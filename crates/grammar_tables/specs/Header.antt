@@ -38,7 +38,7 @@ pub record FrameValues : Type 0 where
   pub header_size_in_bytes : ℕ
 
 pub record HeaderValues : Type 0 where
-  pub frame_marker_lem : ℕ
+  pub frame_marker : ℕ
   pub profile_low_bit : ℕ
   pub profile_high_bit : ℕ
   pub reserved_zero : ℕ
@@ -105,7 +105,7 @@ shows_existing v = flag v.show_existing_frame
 
 unfoldable pub header_fields : List FrameSize → HeaderValues → List Field
 header_fields slots v =
-    fixed (the "frame_marker") 2 2 frame_marker v.frame_marker_lem
+    fixed (the "frame_marker") 2 2 frame_marker v.frame_marker
     ∷ fld (the "profile_low_bit") 1 v.profile_low_bit
     ∷ fld (the "profile_high_bit") 1 v.profile_high_bit
     ∷ fld_if (eqb (header_profile v) 3) (the "reserved_zero") 1 v.reserved_zero

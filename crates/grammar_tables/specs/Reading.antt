@@ -144,7 +144,7 @@ abbrev pub no_probs : (n : ℕ) → Times n ProbValues
 no_probs n = times n no_prob
 
 abbrev pub no_feature : FeatureValues
-no_feature = record { feature_enabled_lem = 0; feature_value = 0; feature_sign = 0 }
+no_feature = record { feature_enabled = 0; feature_value = 0; feature_sign = 0 }
 
 abbrev pub no_features : Times 8 (Times 4 FeatureValues)
 no_features = times 8 (times 4 no_feature)
@@ -176,7 +176,7 @@ read_feature i j = do
   e ← field (feature "feature_enabled" i j) 1
   m ← field_if (flag e) (feature "feature_value" i j) (feature_bits j)
   g ← field_if (flag e && feature_signed j) (feature "feature_sign" i j) 1
-  give (record { feature_enabled_lem = e; feature_value = m; feature_sign = g })
+  give (record { feature_enabled = e; feature_value = m; feature_sign = g })
 
 unfoldable pub read_features : Reader (Times 8 (Times 4 FeatureValues))
 read_features = many 0 8 (λ i. many 0 4 (read_feature i))
@@ -312,4 +312,4 @@ read_header slots = do
   x ← field (the "show_existing_frame") 1
   i ← field_if (flag x) (the "frame_to_show_map_idx") 3
   f ← group_if (not (flag x)) no_frame (read_frame slots (h * 2 + l))
-  give (record { frame_marker_lem = m; profile_low_bit = l; profile_high_bit = h; reserved_zero = z; show_existing_frame = x; frame_to_show_map_idx = i; frame = f })
+  give (record { frame_marker = m; profile_low_bit = l; profile_high_bit = h; reserved_zero = z; show_existing_frame = x; frame_to_show_map_idx = i; frame = f })

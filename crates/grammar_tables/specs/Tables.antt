@@ -153,7 +153,7 @@ probs_fields x y n = many_fields (λ i. prob_fields (item x i) (item y i)) 0 n
 -- feature j of segment i in segmentation_params() (6.2.11); segmentation_feature_bits and segmentation_feature_signed
 -- of quantizer, filter level, reference and skip
 pub record FeatureValues : Type 0 where
-  pub feature_enabled_lem : ℕ
+  pub feature_enabled : ℕ
   pub feature_value : ℕ
   pub feature_sign : ℕ
 
@@ -168,9 +168,9 @@ feature x i j = record { of = x; nth = i ∷ j ∷ [] }
 
 unfoldable pub feature_fields : ℕ → ℕ → FeatureValues → List Field
 feature_fields i j v =
-    fld (feature "feature_enabled" i j) 1 v.feature_enabled_lem
-    ∷ fld_if (flag v.feature_enabled_lem) (feature "feature_value" i j) (feature_bits j) v.feature_value
-    ∷ fld_if (flag v.feature_enabled_lem && feature_signed j) (feature "feature_sign" i j) 1 v.feature_sign
+    fld (feature "feature_enabled" i j) 1 v.feature_enabled
+    ∷ fld_if (flag v.feature_enabled) (feature "feature_value" i j) (feature_bits j) v.feature_value
+    ∷ fld_if (flag v.feature_enabled && feature_signed j) (feature "feature_sign" i j) 1 v.feature_sign
     ∷ []
 
 -- segmentation_params() (6.2.11)

@@ -100,7 +100,7 @@ in_parts_lem slots profile s p =
 abbrev pub flat_header : OpeningValues → FrameValues → HeaderValues
 flat_header o f =
     record {
-      frame_marker_lem = o.profile.frame_marker_lem;
+      frame_marker = o.profile.frame_marker;
       profile_low_bit = o.profile.profile_low_bit;
       profile_high_bit = o.profile.profile_high_bit;
       reserved_zero = o.profile.reserved_zero;

@@ -1,7 +1,7 @@
 -- Where a reader's place goes: past the file's end it gives 8 and stays, inside the file it stays inside, and
 -- each record moves it on.
 -- Assumes nothing.
-use Prim.Native.Nat.{ℕ, ◌+◌, ◌<◌, ◌≤◌}
+use Prim.Native.Nat.{◌+◌, ◌<◌, ◌≤◌}
 use mathlib.Core.Path.{◌≡◌}
 use native.Mathlib.Omega.{arith}
 use lib.ListN.{length}
@@ -12,7 +12,7 @@ use Rattle.ivf_file.specs.Record.{record_of}
 use Rattle.ivf_file.proofs.Table.{past_the_end}
 use Rattle.ivf_file.proofs.Inside.{lies}
 use Rattle.ivf_reader.specs.declared.RecordReader.{RecordReader}
-use Rattle.ivf_reader.specs.Reader.{reader_place_after, moved_on}
+use Rattle.ivf_reader.specs.Reader.{moved_on}
 
 module _ (r : RecordReader) where
   abbrev answer : RecordRead

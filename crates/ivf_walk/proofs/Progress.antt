@@ -11,8 +11,6 @@ use lib.Dec.{leb, ltb}
 use lib.ListN.{length}
 use borrow.Author.Tests.{ltb-true, ltb-false, leb-true, leb-false}
 use Rattle.base_shared.specs.Choice.{pick, pick_t}
-use Rattle.ivf_file.specs.declared.IvfHeader.{IvfHeader}
-use Rattle.ivf_file.specs.declared.FileRead.{FileRead}
 use Rattle.ivf_file.specs.declared.FileRead.TheVariants.{Header, Refused}
 use Rattle.ivf_file.specs.File.{is_ivf, file_of, file_header_of}
 use Rattle.ivf_arriving.specs.declared.Next.{Next}

@@ -2,10 +2,9 @@
 -- Assumes nothing.
 use Prim.Native.Nat.{ℕ, zero, suc, ◌+◌, ◌-◌, ◌<◌, ◌≤◌}
 use mathlib.Core.Path.{◌≡◌, refl, sym, ap, ◌∙◌}
-use mathlib.Core.Logic.{◌⊎◌, inl, inr}
-use mathlib.Core.Bool.{Bool, true, false, not, ◌&&◌}
+use mathlib.Core.Bool.{Bool, true, false}
 use mathlib.Core.List.{List, [], ◌∷◌, ◌++◌}
-use native.Mathlib.Nat.{add-zero, zero-add}
+use native.Mathlib.Nat.{add-zero}
 use native.Mathlib.Omega.{arith}
 use lib.Dec.{eqb, leb, ltb}
 use lib.ListN.{length, take, drop, length-drop}
@@ -14,9 +13,8 @@ use borrow.Author.Tests.{eqb-true, eqb-false, ltb-true, ltb-false, leb-true, leb
 use Rattle.base_shared.specs.Choice.{pick}
 use Rattle.base_little.specs.Little.{little}
 use Rattle.ivf_file.specs.declared.FileRead.TheVariants.{Header, Refused}
-use Rattle.ivf_file.specs.File.{header_bytes, is_ivf, file_of, file_header_of}
-use Rattle.ivf_file.specs.Record.{data_start, data_length, data_end, record_at}
-use Rattle.ivf_file.specs.Records.{records_from}
+use Rattle.ivf_file.specs.File.{is_ivf, file_of, file_header_of}
+use Rattle.ivf_file.specs.Record.{data_length, data_end, record_at}
 use Rattle.ivf_file.proofs.Cases.{at_end, cut, whole}
 use Rattle.ivf_file.proofs.Part.{little_part, header_first}
 use Rattle.ivf_file.proofs.Records.{records_step}

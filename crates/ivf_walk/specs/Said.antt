@@ -1,6 +1,6 @@
 -- What is said of a whole IVF file, in order: docs/RULES.md, "IVF", and numbers 7, 8 and 9.
 -- Assumes nothing.
-use Rattle.std.specs.Prelude.{ℕ, Bool, List, [], ◌∷◌, ◌++◌, map, ltb}
+use Rattle.std.specs.Prelude.{ℕ, List, [], ◌∷◌, ◌++◌, map, ltb}
 use Rattle.base_shared.specs.Choice.{pick}
 use Rattle.ivf_file.specs.declared.Record.{Record}
 use Rattle.ivf_file.specs.File.{is_ivf}

@@ -47,8 +47,8 @@ abbrev pub worked_text : String
 worked_text = "chunk frame kind at size width height refresh hdr\n0 0 key 0 17 64 48 255 14\n1 0 intra 0 15 32 16 2 15\n2 0 inter 0 10 32 16 4 10\n3 0 inter 0 11 32 16 128 10\n3 1 show 11 1 0 0 0 0\n4 refused 4 frame 1\n5 0 inter 0 10 64 48 1 10\n6 refused 1 frame 0\nfile refused 8\n7 chunks 2 refused\n"
 
 -- a byte less than a header
-abbrev pub no_file_lem : List ℕ
-no_file_lem =
+abbrev pub no_file_bytes : List ℕ
+no_file_bytes =
     0x44 ∷ 0x4B ∷ 0x49 ∷ 0x46 ∷ 0x00 ∷ 0x00 ∷ 0x20 ∷ 0x00 ∷ 0x56 ∷ 0x50 ∷ 0x39 ∷ 0x30 ∷ 0x40 ∷ 0x00 ∷ 0x30 ∷ 0x00 ∷
     0x1E ∷ 0x00 ∷ 0x00 ∷ 0x00 ∷ 0x01 ∷ 0x00 ∷ 0x00 ∷ 0x00 ∷ 0x00 ∷ 0x00 ∷ 0x00 ∷ 0x00 ∷ 0x00 ∷ 0x00 ∷ 0x00 ∷ []
 
@@ -62,4 +62,4 @@ PassedBy =
     ≡ ascii "chunk frame kind at size width height refresh hdr\n0 refused 9 frame 0\n1 refused 1 frame 0\nfile refused 8\n2 chunks 2 refused\n"
 
 abbrev pub AllListed : Type 0
-AllListed = Listed example example_text × Listed worked worked_text × Listed no_file_lem no_file_text × PassedBy
+AllListed = Listed example example_text × Listed worked worked_text × Listed no_file_bytes no_file_text × PassedBy

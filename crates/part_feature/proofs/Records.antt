@@ -30,6 +30,6 @@ module _ (b : Bool) (s : List ℕ) (p j n : ℕ) (wide : n ≡ feature_bits j) (
   value_fits = record { fits = small }
 
   pub feature_read : (u g q : ℕ) (z : ℤ) → z ≡ signed m (eqb g 1)
-      → valued (record { enabled = eqb u 1; value = to_z w16 (of_z w16 z) }) q ≡ got (feature_of (record { feature_enabled_lem = u; feature_value = m; feature_sign = g })) q
+      → valued (record { enabled = eqb u 1; value = to_z w16 (of_z w16 z) }) q ≡ got (feature_of (record { feature_enabled = u; feature_value = m; feature_sign = g })) q
   unfolding feature_of
   feature_read u g q z ez = rw (ez, to_z-of_z (signed_fits w16 m (omega (arith, small)) (eqb g 1)))

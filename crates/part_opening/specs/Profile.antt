@@ -7,7 +7,7 @@ use Rattle.part_opening.specs.declared.ProfileRead.{ProfileRead}
 use Rattle.part_opening.specs.declared.ProfileRead.TheVariants.{Value, Refused}
 
 pub record ProfileValues : Type 0 where
-  pub frame_marker_lem : ℕ
+  pub frame_marker : ℕ
   pub profile_low_bit : ℕ
   pub profile_high_bit : ℕ
   pub reserved_zero : ℕ
@@ -23,7 +23,7 @@ read_profile = do
   l ← field (the "profile_low_bit") 1
   h ← field (the "profile_high_bit") 1
   z ← field_if (eqb (h * 2 + l) 3) (the "reserved_zero") 1
-  give (record { frame_marker_lem = m; profile_low_bit = l; profile_high_bit = h; reserved_zero = z })
+  give (record { frame_marker = m; profile_low_bit = l; profile_high_bit = h; reserved_zero = z })
 
 -- the code's answer
 abbrev pub view_profile : ProfileRead → Got ℕ

@@ -37,7 +37,7 @@ pub record Frame : Type 0 where
   pub intra_only : Bool
   pub size : FrameSize
   pub refresh : ℕ
-  pub header_bytes_lem : ℕ
+  pub header_bytes : ℕ
   pub base : ℕ
 
 abbrev pub the_frame : ChunkRead → ℕ → Frame
@@ -51,7 +51,7 @@ the_frame r i =
       intra_only = h.intra_only;
       size = h.width by h.height;
       refresh = h.refresh_frame_flags;
-      header_bytes_lem = h.uncompressed_header_size_in_bytes;
+      header_bytes = h.uncompressed_header_size_in_bytes;
       base = h.quant.base_q_idx;
     }
 
@@ -169,8 +169,8 @@ eight =
 
 -- frames with the base 60, by place, bytes, size, refresh bits and length; and show-existing, else the default header
 abbrev pub coded : FrameType → Bool → ℕ → ℕ → FrameSize → ℕ → ℕ → Frame
-coded kind intra_only at bytes size refresh header_bytes_lem =
-    record { at = at; bytes = bytes; shows = false; kind = kind; intra_only = intra_only; size = size; refresh = refresh; header_bytes_lem = header_bytes_lem; base = 60 }
+coded kind intra_only at bytes size refresh header_bytes =
+    record { at = at; bytes = bytes; shows = false; kind = kind; intra_only = intra_only; size = size; refresh = refresh; header_bytes = header_bytes; base = 60 }
 
 abbrev pub key : ℕ → ℕ → FrameSize → ℕ → ℕ → Frame
 key = coded KeyFrame false
@@ -183,7 +183,7 @@ inter = coded InterFrame false
 
 abbrev pub show : ℕ → ℕ → Frame
 show at bytes =
-    record { at = at; bytes = bytes; shows = true; kind = KeyFrame; intra_only = false; size = 0 by 0; refresh = 0; header_bytes_lem = 0; base = 0 }
+    record { at = at; bytes = bytes; shows = true; kind = KeyFrame; intra_only = false; size = 0 by 0; refresh = 0; header_bytes = 0; base = 0 }
 
 abbrev pub table : List Case
 table =

@@ -1,7 +1,6 @@
 use mathlib.Core.Path.{◌∙◌}
 use native.Mathlib.Omega.{arith}
 use Rattle.ivf_arriving.proofs.Cases.{none_there, header_cut, too_long_lem, data_cut, data_there}
-use borrow.Author.Rules.{rules}
 use Rattle.ivf_arriving.proofs.next_record.Goals as goal
 
 pub returns-then-s-eq0 : goal.returns-then-s-eq0

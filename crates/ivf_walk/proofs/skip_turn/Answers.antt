@@ -1,6 +1,5 @@
 use native.Mathlib.Omega.{arith}
 use Rattle.ivf_walk.proofs.Steps.{all_passed, cut_inside, part_passed}
-use borrow.Author.Rules.{rules}
 use Rattle.ivf_walk.proofs.skip_turn.Goals as goal
 
 pub returns-then-left-held : goal.returns-then-left-held

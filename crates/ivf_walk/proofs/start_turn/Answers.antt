@@ -1,7 +1,6 @@
 use mathlib.Core.Path.{◌∙◌}
 use native.Mathlib.Omega.{arith}
 use Rattle.ivf_walk.proofs.Steps.{all_there, too_few, enough}
-use borrow.Author.Rules.{rules}
 use Rattle.ivf_walk.proofs.start_turn.Goals as goal
 
 pub returns-then-ended : goal.returns-then-ended

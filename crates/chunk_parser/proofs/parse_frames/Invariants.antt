@@ -1,0 +1,6 @@
+use Rattle.header_parser.specs.Answer.{parsed}
+use Rattle.chunk_judged.proofs.Walk.{Walked}
+use Rattle.chunk_parser.proofs.parse_frames.Given as goal
+
+abbrev pub invariant-loop-i : goal.invariant-loop-i
+invariant-loop-i l = Walked parsed l.chunk l.initial.state l.count l.at l.size l.i l.headers l.state
