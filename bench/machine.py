@@ -104,8 +104,8 @@ class Machine:
 
     def proved(self, name):
         """The words that run a proved program where instructions are counted: under the kit's loader."""
-        path = os.path.join(ROOT, "target", "bin", name)
-        need(os.path.exists(path), f"no {path}: rt check {name}")
+        path = os.path.join(ROOT, "crates", name, "out", name)
+        need(os.path.exists(path), f"no {path}: rt run in crates/{name}")
         return program.command(path, program.kit_tools())[-4:]
 
     def rust(self, driver, native=False):

@@ -4,7 +4,7 @@ and RecordReader.
 
 Usage: compare.py [--program PROGRAM] [--records RECORDS] [--judge JUDGE] [--write DIR]
 
-PROGRAM is the proved program test_calls (default target/bin/test_calls, made by `rt check test_calls`);
+PROGRAM is the proved program test_calls (default crates/test_calls/out/test_calls, made by `rt run` there);
 crates/test_calls/src/main.rt says what it reads. RECORDS is the program test_records.rt.txt beside this file (default
 target/programs/test_records, made by `tests/programs/build test_records`). JUDGE is our driver over the Rust (tests/judge), which has
 try_from and the records of an IVF file; without it those are held to docs/RULES.md alone. The same run makes the same calls.

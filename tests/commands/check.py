@@ -4,7 +4,7 @@
 usage: check.py [GROUP[.CASE] ...]
 
 The groups `words`, `building` and `running` run bin/ in a scratch repository with a made-up kit; `programs` runs
-bin/list with the programs of the folder that VP9_READER_PROGRAMS names, or else of target/bin.
+bin/list with the programs of the folder that VP9_READER_PROGRAMS names, or else the proved ones.
 
 Exit 0 if all is as held, 1 if not."""
 

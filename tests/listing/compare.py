@@ -3,7 +3,7 @@
 
 usage: compare.py [--judge JUDGE]
 
-Runs target/bin/tool_list (made by `rt check tool_list`) on docs/RULES.md's example, on every recording of
+Runs crates/tool_list/out/tool_list (made by `rt run` in crates/tool_list) on docs/RULES.md's example, on every recording of
 tests/recordings and on damaged files, and compares its lines with the model below, which is written
 from docs/RULES.md over tests/handmade/expect.py. The recordings are also held to ffmpeg's kept traces.
 Then bin/list: its statuses and its help. With --judge the recordings are held to the Rust, and nothing else is run.

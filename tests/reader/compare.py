@@ -4,8 +4,8 @@
 Usage: compare.py [--program PROGRAM] [--judge JUDGE] [--src SRC_DIR] [--tools DIR]
                   [--bent N] [--every N] [--show N]
 
-PROGRAM is the proved program tool_trace (default target/bin/tool_trace, made by
-`rt check tool_trace`). README.md says what is put to it and what each answer is held to.
+PROGRAM is the proved program tool_trace (default crates/tool_trace/out/tool_trace, made by
+`rt run` there). README.md says what is put to it and what each answer is held to.
 --bent N adds N bent copies of the hand-made series. --every N takes only each N-th of the
 cut and bent example and real chunks and of the short chunks.
 

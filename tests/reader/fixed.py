@@ -1,5 +1,5 @@
 #!/usr/bin/env python3
-"""Makes the fixed list of answers that `rt check` and `rt ci` replay with no Rust at hand:
+"""Makes the fixed list of answers that `rt ci` replays with no Rust at hand:
 crates/test_digest/stdin, some thousands of chunks, and crates/test_digest/stdout, the answers of the Rust.
 
 Usage: fixed.py [--judge JUDGE] [--check]

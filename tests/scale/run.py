@@ -5,7 +5,7 @@ Usage: run.py [--seed N] [--chunks N] [--minutes N] [--kinds KIND,..] [--jobs N]
               [--no-rust] [--program PROGRAM] [--second SECOND] [--judge JUDGE] [--src SRC_DIR] [--tools DIR]
        run.py --explain KIND NUMBER [--seed N] ..
 
-PROGRAM is the proved program test_digest (default target/bin/test_digest, made by `rt check test_digest`), SECOND the
+PROGRAM is the proved program test_digest (default crates/test_digest/out/test_digest, made by `rt run` there), SECOND the
 second reader (target/second/second), JUDGE our driver over the Rust (target/judge/judge). What can be built
 and isn't there is built. README.md says what is put and what each answer is held to.
 --chunks is the number in all; --minutes ends the run in time. --explain prints what the readers say in full of one chunk,

@@ -3,8 +3,8 @@
 
 Usage: compare.py [--program PROGRAM] [--original ORIGINAL] [--src SRC_DIR] [--cases N] [--show N] [--write FILE]
 
-PROGRAM is the proved program test_segments (default target/bin/test_segments, made by
-`rt check test_segments`), ORIGINAL our driver over the Rust (default
+PROGRAM is the proved program test_segments (default crates/test_segments/out/test_segments, made by
+`rt run` there), ORIGINAL our driver over the Rust (default
 target/segments/original, made by tests/segments/build). Both get the same cases and
 must print the same records, and those must be the model's (tests/handmade/expect.py,
 from docs/RULES.md's "Eight segment records"). Then PROGRAM is asked for the four scales of each segment
