@@ -1,5 +1,6 @@
 use Rattle.base_bytes.proofs.Append.{nothing}
 use Rattle.text_form.proofs.Cases.{of_number, of_lifted, of_flag, of_words, of_text}
+use borrow.Author.Rules.{rules}
 use Rattle.text_form.proofs.put_mark.Goals as goal
 
 pub returns-in-35 : goal.returns-in-35
@@ -15,4 +16,4 @@ pub returns-in-60 : goal.returns-in-60
 returns-in-60 c = rw (of_words _ _ c.in-60.is) (nothing _ _)
 
 pub returns-in_default : goal.returns-in_default
-returns-in_default c = let h = c.in_default.in_default-own.rest in rw (of_text _ _ h.0.0.0.1 h.0.0.1 h.0.1 h.1) c.put_byte.ensures
+returns-in_default c = rw (of_text c.args.c c.args.n (search rules) (search rules) (search rules) (search rules)) c.put_byte.ensures
