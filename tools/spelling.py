@@ -13,8 +13,10 @@ import re
 import sys
 from collections import defaultdict
 
-# Fields, which fall together with a constructor or a function, and a list of bytes that would with a constructor.
+# Fields, which fall together with a constructor or a function; a list of bytes that would with a constructor; and a
+# function that would with a lemma of another crate.
 CHOSEN = {
+    "goesOn": "goes_on",
     "frame-marker": "frame_marker",
     "feature-enabled": "feature_enabled",
     "header-bytes": "header_bytes",

@@ -34,16 +34,16 @@ turns_left (Skip left) = 2
 turns_left Over = 0
 
 -- what is at hand may be enough for another turn
-abbrev pub goes_on_lem : Event → Bool
-goes_on_lem More = false
-goes_on_lem Pass = true
-goes_on_lem NoFile = false
-goes_on_lem Opened = true
-goes_on_lem (Data n) = true
-goes_on_lem TooLong = true
-goes_on_lem Cut = false
-goes_on_lem End = false
-goes_on_lem event.Over = false
+abbrev pub goes_on : Event → Bool
+goes_on More = false
+goes_on Pass = true
+goes_on NoFile = false
+goes_on Opened = true
+goes_on (Data n) = true
+goes_on TooLong = true
+goes_on Cut = false
+goes_on End = false
+goes_on event.Over = false
 
 -- records that are said, and one whose header is passed and which isn't said yet
 abbrev pub counted : Event → ℕ
@@ -78,13 +78,13 @@ DataFits m event.Over = Unit
 pub record Moves (stage : Stage) (ended : Bool) (m : ℕ) (t : Turn) : Type 0 where
   pub within : t.used ≤ m
   pub fits : DataFits m t.event
-  pub brings : pick_t (goes_on_lem t.event) (turns_left t.stage + (m - t.used) < turns_left stage + m) ((t.stage ≡ Over) ⊎ ((ended ≡ false) × (m - t.used < 65548)))
+  pub brings : pick_t (goes_on t.event) (turns_left t.stage + (m - t.used) < turns_left stage + m) ((t.stage ≡ Over) ⊎ ((ended ≡ false) × (m - t.used < 65548)))
   -- each record takes two bytes or more
   pub pays : 2 * (counted t.event + passing t.stage) ≤ 2 * passing stage + t.used
   pub stands : (p : ℕ) → FromStart stage p → FromStart t.stage (p + t.used)
 
 -- a turn that ends the walk
-ends : (stage : Stage) (ended : Bool) (m used : ℕ) (e : Event) → used ≤ m → DataFits m e → goes_on_lem e ≡ false → counted e ≡ 0 → Moves stage ended m (takes e used Over)
+ends : (stage : Stage) (ended : Bool) (m used : ℕ) (e : Event) → used ≤ m → DataFits m e → goes_on e ≡ false → counted e ≡ 0 → Moves stage ended m (takes e used Over)
 ends stage ended m used e h d g z = record { within = h; fits = d; brings = rw g (inl refl); pays = omega (arith, z); stands = λ p k. tt }
 
 file_moves : (ended : Bool) (s : List ℕ) → Moves Start ended (length s) (file_turn (file_of s))

@@ -21,7 +21,7 @@ use Rattle.ivf_walk.specs.declared.Turn.{Turn}
 use Rattle.ivf_walk.specs.Said.{Said, file_said}
 use Rattle.ivf_walk.specs.Rest.{rest_said, event_said, FromStart}
 use Rattle.ivf_walk.proofs.Rest.{turn_says}
-use Rattle.ivf_walk.proofs.Progress.{turns_left, goes_on_lem, counted, passing, Moves, turn_moves}
+use Rattle.ivf_walk.proofs.Progress.{turns_left, goes_on, counted, passing, Moves, turn_moves}
 use Rattle.text_line.specs.Line.{Word, text_of}
 use Rattle.text_line.proofs.Lines.{text_append}
 use Rattle.listing_file.specs.Chunk.{refusals}
@@ -75,7 +75,7 @@ stage_after l s stage Cut = refl
 stage_after l s stage End = refl
 stage_after l s stage event.Over = refl
 
-again_goes : (e : Event) → is_again (wants_of e) ≡ goes_on_lem e
+again_goes : (e : Event) → is_again (wants_of e) ≡ goes_on e
 again_goes More = refl
 again_goes Pass = refl
 again_goes NoFile = refl

@@ -1,7 +1,6 @@
 -- The text of single items.
 -- Assumes nothing.
 use Prim.Native.Nat.{ℕ}
-use mathlib.Core.Path.{◌≡◌}
 use mathlib.Core.List.{List, [], ◌++◌, append-nil}
 use Rattle.base_bytes.specs.Put.{Written}
 

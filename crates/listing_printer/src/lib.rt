@@ -4,7 +4,7 @@
 ghost use Rattle.std.specs.Prelude.{[], ◌∷◌};
 ghost use Rattle.base_bytes.specs.Put.{Written};
 ghost use Rattle.listing_items.specs.Items.{frame, file_refused, last};
-ghost use Rattle.listing_items.specs.Text.{itemText, itemsText};
+ghost use Rattle.listing_printer.specs.Text.{item_text, items_text};
 ghost use Rattle.listing_tracer.specs.Traced.{items_in};
 
 use base_types::Header;
@@ -22,7 +22,7 @@ pub fn put_frame(
     h: Header,
     records: [Segmentation; 8],
 ) -> usize
-    ensures { Written out.old at (itemText (frame chunk number place size h records)) result out.new }
+    ensures { Written out.old at (item_text (frame chunk number place size h records)) result out.new }
 {
     let next = text_frame_line::frame_line(out, at, chunk, number, place, size, h);
     let next = text_records::put_header(out, next, h);
@@ -30,14 +30,14 @@ pub fn put_frame(
 }
 
 fn put_cut(out: &mut [u8], at: usize, chunks: u64, refused: u64) -> usize
-    ensures { Written out.old at (itemsText (file_refused 8 ∷ last chunks refused ∷ [])) result out.new }
+    ensures { Written out.old at (items_text (file_refused 8 ∷ last chunks refused ∷ [])) result out.new }
 {
     let next = text_listing::file_refused_line(out, at, 8);
     text_listing::last_line(out, next, chunks, refused)
 }
 
 pub fn put_item(out: &mut [u8], at: usize, traced: Traced) -> usize
-    ensures { Written out.old at (itemsText (items_in traced)) result out.new }
+    ensures { Written out.old at (items_text (items_in traced)) result out.new }
 {
     let yields = traced.yields;
     let header = traced.header;

@@ -33,7 +33,7 @@ use Rattle.ivf_walk.specs.Turn.{turn_of}
 use Rattle.ivf_walk.specs.Said.{Said}
 use Rattle.ivf_walk.specs.Rest.{rest_said, event_said, FromStart}
 use Rattle.ivf_walk.proofs.Rest.{turn_says}
-use Rattle.ivf_walk.proofs.Progress.{turns_left, goes_on_lem, counted, passing, Moves, turn_moves}
+use Rattle.ivf_walk.proofs.Progress.{turns_left, goes_on, counted, passing, Moves, turn_moves}
 use Rattle.listing_file.specs.Chunk.{refusals}
 use Rattle.listing_items.specs.Items.{Item, frame_items, records_past, answer_items, records_after, items_of, long_form}
 use Rattle.listing_lister.specs.Lister.{one_more, FewFrames}
@@ -129,17 +129,17 @@ module _ (t : Tracer) (none_left : t.count ≤ t.frame) (h : t.chunks + 1 < 2 ^ 
 record Follows (t : Tracer) (u : Turn) (e : Event) (r : Traced) : Type 0 where
   stage : r.tracer.stage ≡ u.stage
   used : r.used ≡ u.used
-  again : goes_again r.yields ≡ goes_on_lem e
+  again : goes_again r.yields ≡ goes_on e
   chunks : r.tracer.chunks ≡ t.chunks + counted e
   fewer : r.tracer.refused ≤ r.tracer.chunks
   eight : r.tracer.count ≤ 8
-  rest : pick_t (goes_on_lem e) Unit (r.tracer.count ≤ r.tracer.frame)
+  rest : pick_t (goes_on e) Unit (r.tracer.count ≤ r.tracer.frame)
 
 module _ (t : Tracer) (none_left : t.count ≤ t.frame) (h : t.chunks + 1 < 2 ^ 64) (k : t.refused ≤ t.chunks) (few : t.count ≤ 8) (u : Turn) where
-  quietly : (e : Event) (y : Yields) → goes_again y ≡ goes_on_lem e → counted e ≡ 0 → pick_t (goes_on_lem e) Unit (t.count ≤ t.frame) → Follows t u e (turned_to t u y)
+  quietly : (e : Event) (y : Yields) → goes_again y ≡ goes_on e → counted e ≡ 0 → pick_t (goes_on e) Unit (t.count ≤ t.frame) → Follows t u e (turned_to t u y)
   quietly e y g z l = record { stage = refl; used = refl; again = g; chunks = omega (arith, z); fewer = k; eight = few; rest = l }
 
-  refusing : (e : Event) (number i : ℕ) → goes_on_lem e ≡ true → counted e ≡ 1 → Follows t u e (refused_traced t u number i)
+  refusing : (e : Event) (number i : ℕ) → goes_on e ≡ true → counted e ≡ 1 → Follows t u e (refused_traced t u number i)
   refusing e number i g z =
       record {
         stage = refl;
@@ -271,7 +271,7 @@ module _ (f : List ℕ) (small : length f < 2 ^ 64) where
       turn_called =
           record {
             comes = record { used = reply.used; within = rw follows.used moves.within; kept = left_there; says = turn_yields; standing = turn_stands };
-            goes = rw follows.again (brings (goes_on_lem turn.event) moves.brings follows.rest);
+            goes = rw follows.again (brings (goes_on turn.event) moves.brings follows.rest);
           }
 
     one_call_lem : Called t p m ended (one_call t hand ended)

@@ -4,12 +4,11 @@ use Prim.Native.Nat.{ℕ, zero, suc, ◌-◌, ◌<◌, ◌≤◌}
 use mathlib.Core.Path.{◌≡◌, refl}
 use mathlib.Core.Bool.{true, false}
 use mathlib.Core.Logic.{◌⊎◌, inl, inr, ⊎_elim}
-use mathlib.Core.List.{List, [], ◌∷◌}
+use mathlib.Core.List.{[], ◌∷◌}
 use native.Mathlib.Omega.{arith}
 use borrow.Author.Tests.{ne_eqb}
 use Rattle.text_numeral.specs.Numeral.{numeral}
 use Rattle.text_signed.specs.Number.{lowered_text}
-use Rattle.text_form.specs.declared.Mode.{Mode}
 use Rattle.text_form.specs.declared.Mode.TheVariants.{Text, Words, Rest}
 use Rattle.text_form.specs.Form.{flag_text, mark_piece, word_piece, words_after, is_mark}
 

@@ -1,7 +1,7 @@
 -- A form with every mark, computed.
 -- Assumes nothing.
 use mathlib.Core.Path.{◌≡◌, refl}
-use mathlib.Core.List.{List, [], ◌∷◌}
+use mathlib.Core.List.{[], ◌∷◌}
 use Rattle.text_numeral.specs.Ascii.{ascii}
 use Rattle.text_numeral.specs.Numeral.{numeral, numeral_of}
 use Rattle.text_signed.specs.Number.{lowered_text}

@@ -1,0 +1,6 @@
+use Rattle.text_records.specs.Header.{profile_text}
+use Rattle.text_records.proofs.put_profile.Goals as goal
+
+pub returns : goal.returns
+unfolding profile_text
+returns c = rw (← c.number.ensures) c.put_form.ensures
