@@ -1,11 +1,11 @@
 #!/bin/sh
 # native.sh NAME OUT: the proved program NAME for this machine, an Arm one, to be timed. The LLVM module that rattle hands to its
 # compiler is kept, its layout, triple and processor are replaced by this machine's, and it is compiled and linked with this
-# machine's C library. The machine code isn't the shipped one; the module is. `rt check NAME` comes first.
+# machine's C library. The machine code isn't the shipped one; the module is. `rt run` in crates/NAME comes first.
 set -eu
 root=$(cd "$(dirname "$0")/.." && pwd -P) name=$1 out=$2
 rt=$(readlink -f "$(command -v rt)")
-kit=${RATTLE_HOME:-$(dirname "$(dirname "$rt")")} own=$kit/on/$(uname -m)
+kit=${RATTLE_HOME:-$(dirname "$(dirname "$rt")")} own=$kit
 clang=$own/toolchain/bin/clang
 mkdir -p "$out.kept/bin"
 kept=$(cd "$out.kept" && pwd -P)

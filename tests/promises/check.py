@@ -26,7 +26,7 @@ NAME = re.compile(r"`(?:([a-z_]+)/)?([a-z_0-9]+)`")
 EXCEPTED = "Edits of a promise alone, or of a proof"
 
 # What of a file of src/ is no code: comments, imports for promises, and promises, whose braces nest once at most.
-NO_CODE = re.compile(r"//[^\n]*|^ghost use [^;]*;|\b(?:requires|ensures) \{(?:[^{}]|\{[^{}]*\})*\}", re.M)
+NO_CODE = re.compile(r"//[^\n]*|^ghost use [^;]*;|\b(?:requires|ensures)(?: \w+)? \{(?:[^{}]|\{[^{}]*\})*\}", re.M)
 
 
 def read(*path):

@@ -17,7 +17,8 @@ import collections
 import re
 import sys
 
-REFUSED = re.compile(r"^rt: must-fail (\S+)\.edit: refused, as it must be: (.*)$", re.M)
+# What stands in brackets says that no contract was shown: only a name or a limit.
+REFUSED = re.compile(r"^rt: must-fail (\S+)\.edit: refused, as it must be(?: \((only[^)]*)\))?:? ?(.*)$", re.M)
 ERROR = re.compile(r"\S*?((?:src|specs|proofs)/\S*?):\d+:\d+: error: `([^`]*)`: (.*)$")
 UNPROVED = re.compile(r"note: \S*?(src/\S*?):\d+:\d+: it is not proved that .*?\(`([^`]*)`\)")
 LOOP = re.compile(r"^loop(-.*)?-(init|preserved)(-\d+)?$")
@@ -50,8 +51,9 @@ def main():
     with open(words[0], encoding="utf-8") as file:
         edits = REFUSED.findall(file.read())
     count = collections.Counter()
-    for edit, said in edits:
+    for edit, only, said in edits:
         failed, file, name = refusal(said)
+        failed = "shape" if only else failed
         fault = failed not in FACTS
         count[fault] += 1
         if fault or "-a" in sys.argv:
