@@ -23,7 +23,7 @@ use Rattle.grammar_tables.specs.Reading.{read_feature, read_features}
 use Rattle.grammar_settings.specs.Settings.{enabled_of, data_value, feature_row}
 use Rattle.part_segment_data.specs.declared.Features.{Features}
 use Rattle.part_segment_data.specs.Features.{feature_rows}
-use Rattle.part_segment_map.proofs.Rows.{seen, unseen, both, Filled, fill_start, fill_turn, fill_stop, fill_end}
+use Rattle.base_syntax.proofs.Rows.{seen, unseen, both, Filled, fill_start, fill_turn, fill_stop, row_end}
 use Rattle.part_segment_data.proofs.Flat.{row_flat}
 
 -- the feature at place k of a row
@@ -32,19 +32,22 @@ placed k = read_feature (k / 4) (k % 4)
 
 -- k features stand in the rows e and l
 pub record FeaturesFilling (s : List ℕ) (p₀ k p : ℕ) (e : List Bool) (l : List ℤ) : Type 0 where
-  pub enabled : Filled enabled_of 32 placed s p₀ k p e
-  pub values : Filled data_value 32 placed s p₀ k p l
+  pub enabled : Filled (λ k. enabled_of) 32 placed s p₀ k p e
+  pub values : Filled (λ k. data_value) 32 placed s p₀ k p l
 
 pub features_start : (s : List ℕ) (p : ℕ) → FeaturesFilling s p 0 p (replicate 32 false) (replicate 32 (pos 0))
-features_start s p = record { enabled = fill_start enabled_of 32 placed s p false; values = fill_start data_value 32 placed s p (pos 0) }
+features_start s p = record {
+  enabled = fill_start (λ k. enabled_of) 32 placed s p (replicate 32 false) refl;
+  values = fill_start (λ k. data_value) 32 placed s p (replicate 32 (pos 0)) refl;
+}
 
 module _ {s : List ℕ} {p₀ k p : ℕ} {e : List Bool} {l : List ℤ} (h : FeaturesFilling s p₀ k p e l) where
   pub features_end : 32 ≤ k → Ok (record { enabled = e; values = l }, record { at = p }) ≡ over feature_rows (read_features s p₀)
   unfolding feature_rows read_features
   features_end all =
       both (feature_row enabled_of 8) (feature_row data_value 8) (λ a b. record { enabled = a; values = b }) (read_features s p₀)
-      (fill_end h.enabled all ∙ row_flat enabled_of read_feature s p₀)
-      (fill_end h.values all ∙ row_flat data_value read_feature s p₀)
+      (row_end h.enabled all ∙ row_flat enabled_of read_feature s p₀)
+      (row_end h.values all ∙ row_flat data_value read_feature s p₀)
 
   module _ (more : k < 32) (r : Result (Feature × Cursor) Refusal) (is : FeatureIs s p (k % 4) r) where
     pub features_stop : {x : Refusal} (y : Result (Features × Cursor) Refusal) → r ≡ Err x → IsErrAnd y (λ w. w ≡ x) → y ≡ over feature_rows (read_features s p₀)

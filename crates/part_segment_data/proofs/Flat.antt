@@ -13,7 +13,7 @@ use Rattle.base_syntax.specs.Many.{Times, many, folds, each_of}
 use Rattle.base_syntax.proofs.Many.{turn, turn_stop}
 use Rattle.grammar_tables.specs.Tables.{FeatureValues}
 use Rattle.grammar_settings.specs.Settings.{feature_row}
-use Rattle.part_segment_map.proofs.Rows.{grown, grown_each, over_same}
+use Rattle.base_syntax.proofs.Rows.{grown, grown_each, over_same}
 
 -- what is answered to a reading, and what comes after it
 abbrev Told : Type 0 → Type 0
@@ -87,15 +87,15 @@ module _ {A S : Type 0} (f : S → A → S) (s : List ℕ) (r : ℕ → ℕ → 
       (follow_same (run f s (r i) 0 4 st p) (run (folds f 4) s (λ i. many 0 4 (r i)) (i + 1) n) (run f s flat ((i + 1) * 4) (n * 4)) (run_flat (i + 1) n))
 
 module _ {B : Type 0} (f : FeatureValues → B) where
-  grown_rows : (n : ℕ) (l : List B) (v : Times n (Times 4 FeatureValues)) → folds (folds (grown f) 4) n l v ≡ l ++ feature_row f n v
+  grown_rows : (n : ℕ) (l : List B) (v : Times n (Times 4 FeatureValues)) → folds (folds (grown (λ k. f)) 4) n l v ≡ l ++ feature_row f n v
   unfolding folds
   grown_rows zero l v = sym (append-nil l)
-  grown_rows (suc n) l v = grown_rows n (folds (grown f) 4 l v.0) v.1 ∙ simp append_assoc
+  grown_rows (suc n) l v = grown_rows n (folds (grown (λ k. f)) 4 l v.0) v.1 ∙ simp append_assoc
 
   -- the row of all features
   pub row_flat : (r : ℕ → ℕ → Reader FeatureValues) (s : List ℕ) (p : ℕ)
       → over (each_of f 32) (many 0 32 (λ k. r (k / 4) (k % 4)) s p) ≡ over (feature_row f 8) (many 0 8 (λ i. many 0 4 (r i)) s p)
   row_flat r s p =
-      sym (over_same (folds (grown f) 32 []) (each_of f 32) (many 0 32 (flat (grown f) s r) s p) (grown_each f 32 []))
-      ∙ sym (run_flat (grown f) s r 0 8 [] p)
-      ∙ over_same (folds (folds (grown f) 4) 8 []) (feature_row f 8) (many 0 8 (λ i. many 0 4 (r i)) s p) (grown_rows 8 [])
+      sym (over_same (folds (grown (λ k. f)) 32 []) (each_of f 32) (many 0 32 (flat (grown (λ k. f)) s r) s p) (grown_each f 32 []))
+      ∙ sym (run_flat (grown (λ k. f)) s r 0 8 [] p)
+      ∙ over_same (folds (folds (grown (λ k. f)) 4) 8 []) (feature_row f 8) (many 0 8 (λ i. many 0 4 (r i)) s p) (grown_rows 8 [])

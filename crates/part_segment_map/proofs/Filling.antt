@@ -5,6 +5,7 @@ use Prim.Native.String.{String}
 use mathlib.Core.Path.{◌≡◌}
 use mathlib.Core.List.{List}
 use lib.ListN.{set, replicate}
+use Rattle.std.proofs.lemmas.List.{length-replicate}
 use Rattle.std.specs.Prelude.{Result, Ok, Err}
 use Rattle.std.specs.Result.{IsErrAnd}
 use Rattle.base_bits.specs.declared.Cursor.{Cursor}
@@ -14,19 +15,19 @@ use Rattle.part_coded.specs.Prob.{ProbIs}
 use Rattle.grammar_tables.specs.Reading.{read_prob, read_probs}
 use Rattle.grammar_settings.specs.Settings.{prob_of}
 use Rattle.part_segment_map.specs.Probs.{ProbsAre}
-use Rattle.part_segment_map.proofs.Rows.{Filled, fill_start, fill_turn, fill_stop, fill_end}
+use Rattle.base_syntax.proofs.Rows.{Filled, fill_start, fill_turn, fill_stop, row_end}
 
 -- i of n probabilities stand in the row l, under whatever names
 abbrev pub ProbsFilling : ℕ → List ℕ → ℕ → ℕ → ℕ → List ℕ → Type 0
-ProbsFilling n s p₀ i p l = (x y : String) → Filled prob_of n (λ j. read_prob (item x j) (item y j)) s p₀ i p l
+ProbsFilling n s p₀ i p l = (x y : String) → Filled (λ k. prob_of) n (λ j. read_prob (item x j) (item y j)) s p₀ i p l
 
 pub probs_start : (n : ℕ) (s : List ℕ) (p : ℕ) → ProbsFilling n s p 0 p (replicate n 255)
-probs_start n s p x y = fill_start prob_of n (λ j. read_prob (item x j) (item y j)) s p 255
+probs_start n s p x y = fill_start (λ k. prob_of) n (λ j. read_prob (item x j) (item y j)) s p (replicate n 255) (length-replicate n 255)
 
 module _ {n : ℕ} {s : List ℕ} {p₀ i p : ℕ} {l : List ℕ} (h : ProbsFilling n s p₀ i p l) where
   pub probs_end : n ≤ i → ProbsAre s p₀ n (Ok (l, record { at = p }))
   unfolding read_probs
-  probs_end all x y = fill_end (h x y) all
+  probs_end all x y = row_end (h x y) all
 
   module _ (more : i < n) (r : Result (ℕ × Cursor) Refusal) (is : ProbIs s p r) where
     pub probs_stop : {e : Refusal} (y : Result (List ℕ × Cursor) Refusal) → r ≡ Err e → IsErrAnd y (λ w. w ≡ e) → ProbsAre s p₀ n y

@@ -18,7 +18,7 @@ use Rattle.grammar_settings.specs.Settings.{prob_of}
 use Rattle.base_segmentation.specs.declared.SegmentationParams.{SegmentationParams}
 use Rattle.part_segment_map.specs.Probs.{ProbsAre, ProbsAreIf}
 use Rattle.part_segment_map.specs.Map.{with_map, map_of}
-use Rattle.part_segment_map.proofs.Rows.{same_row}
+use Rattle.base_syntax.proofs.Rows.{same_row}
 
 -- probabilities that are there only if a test holds
 module _ (b : Bool) (s : List ℕ) (n : ℕ) where

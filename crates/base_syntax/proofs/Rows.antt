@@ -37,40 +37,43 @@ pub over_same : {A B : Type 0} (f g : A → B) (m : Read A) → ((a : A) → f a
 over_same f g (read a p) h = rw (h a)
 over_same f g (stopped w) h = refl
 
--- a row with one more value
-abbrev pub grown : {A B : Type 0} → (A → B) → List B → A → List B
-grown f l a = l ++ (f a ∷ [])
+-- a row with one more value, which may go by those before it
+abbrev pub grown : {A B : Type 0} → (List B → A → B) → List B → A → List B
+grown g l a = l ++ (g l a ∷ [])
 
-pub grown_each : {A B : Type 0} (f : A → B) (n : ℕ) (l : List B) (v : Times n A) → folds (grown f) n l v ≡ l ++ each_of f n v
+pub grown_each : {A B : Type 0} (f : A → B) (n : ℕ) (l : List B) (v : Times n A) → folds (grown (λ k. f)) n l v ≡ l ++ each_of f n v
 unfolding folds
 grown_each f zero l v = sym (append-nil l)
-grown_each f (suc n) l v = grown_each f n (grown f l v.0) v.1 ∙ append_assoc l (f v.0 ∷ []) (each_of f n v.1)
+grown_each f (suc n) l v = grown_each f n (grown (λ k. f) l v.0) v.1 ∙ append_assoc l (f v.0 ∷ []) (each_of f n v.1)
 
--- of the row l of n places, the first i hold what f makes of the values read so far
-pub record Filled {A B : Type 0} (f : A → B) (n : ℕ) (r : ℕ → Reader A) (s : List ℕ) (p₀ i p : ℕ) (l : List B) : Type 0 where
+-- of the row l of n places, the first i hold what g makes of the values read so far
+pub record Filled {A B : Type 0} (g : List B → A → B) (n : ℕ) (r : ℕ → Reader A) (s : List ℕ) (p₀ i p : ℕ) (l : List B) : Type 0 where
   pub size : length l ≡ n
-  pub front : Looped (grown f) n r s p₀ [] i p (take i l)
+  pub front : Looped (grown g) n r s p₀ [] i p (take i l)
 
-pub fill_start : {A B : Type 0} (f : A → B) (n : ℕ) (r : ℕ → Reader A) (s : List ℕ) (p : ℕ) (b : B) → Filled f n r s p 0 p (replicate n b)
-fill_start f n r s p b = record { size = length-replicate n b; front = loop_start (grown f) n r s p [] }
+pub fill_start : {A B : Type 0} (g : List B → A → B) (n : ℕ) (r : ℕ → Reader A) (s : List ℕ) (p : ℕ) (l : List B) → length l ≡ n → Filled g n r s p 0 p l
+fill_start g n r s p l e = record { size = e; front = loop_start (grown g) n r s p [] }
 
-module _ {A B : Type 0} {f : A → B} {n : ℕ} {r : ℕ → Reader A} {s : List ℕ} {p₀ i p : ℕ} {l : List B} (h : Filled f n r s p₀ i p l) where
-  pub fill_turn : {b : B} {e : Cursor} → i < n → Ok (b, e) ≡ over f (r i s p) → Filled f n r s p₀ (i + 1) e.at (set l i b)
+module _ {A B : Type 0} {g : List B → A → B} {n : ℕ} {r : ℕ → Reader A} {s : List ℕ} {p₀ i p : ℕ} {l : List B} (h : Filled g n r s p₀ i p l) where
+  pub fill_turn : {b : B} {e : Cursor} → i < n → Ok (b, e) ≡ over (g (take i l)) (r i s p) → Filled g n r s p₀ (i + 1) e.at (set l i b)
   fill_turn {b} {e} more t = record {
     size = length-set l i b ∙ h.size;
-    front = loop_turn h.front more (rw (add-one, take-suc-set l i b (omega (arith, h.size))) (seen (λ c. take i l ++ (c ∷ [])) f (r i s p) t));
+    front = loop_turn h.front more (rw (add-one, take-suc-set l i b (omega (arith, h.size))) (seen (λ c. take i l ++ (c ∷ [])) (g (take i l)) (r i s p) t));
   }
 
-  pub fill_stop : {C : Type 0} (g : Times n A → C) {x : Refusal} (y : Result (C × Cursor) Refusal) → i < n → Err x ≡ over f (r i s p) → IsErrAnd y (λ e. e ≡ x) → y ≡ over g (many 0 n r s p₀)
-  fill_stop g y more t e =
+  pub fill_stop : {C : Type 0} (f : Times n A → C) {x : Refusal} (y : Result (C × Cursor) Refusal) → i < n → Err x ≡ over (g (take i l)) (r i s p) → IsErrAnd y (λ e. e ≡ x) → y ≡ over f (many 0 n r s p₀)
+  fill_stop f y more t e =
       let is = err_from_is_err_and y e in
-      rw (is.1, is.2) (unseen g (folds (grown f) n []) (many 0 n r s p₀) (loop_stop h.front (λ c. c) more (unseen (grown f (take i l)) f (r i s p) t)))
+      rw (is.1, is.2) (unseen f (folds (grown g) n []) (many 0 n r s p₀) (loop_stop h.front (λ c. c) more (unseen (grown g (take i l)) (g (take i l)) (r i s p) t)))
 
-  pub fill_end : n ≤ i → Ok (l, record { at = p }) ≡ over (each_of f n) (many 0 n r s p₀)
+  pub fill_end : n ≤ i → Ok (l, record { at = p }) ≡ over (folds (grown g) n []) (many 0 n r s p₀)
   fill_end all =
       let whole : take i l ≡ l = take_all i l (omega (arith, h.size)) in
-      (rw whole at (loop_end h.front (λ c. c) all))
-      ∙ over_same (folds (grown f) n []) (each_of f n) (many 0 n r s p₀) (grown_each f n [])
+      rw whole at (loop_end h.front (λ c. c) all)
+
+-- where each value stands for itself
+pub row_end : {A B : Type 0} {f : A → B} {n : ℕ} {r : ℕ → Reader A} {s : List ℕ} {p₀ i p : ℕ} {l : List B} → Filled (λ k. f) n r s p₀ i p l → n ≤ i → Ok (l, record { at = p }) ≡ over (each_of f n) (many 0 n r s p₀)
+row_end {f = f} {n = n} {r = r} {s = s} {p₀ = p₀} h all = fill_end h all ∙ over_same (folds (grown (λ k. f)) n []) (each_of f n) (many 0 n r s p₀) (grown_each f n [])
 
 -- a row that is the same all over
 pub same_row : {A B : Type 0} (f : A → B) (a : A) (n : ℕ) → replicate n (f a) ≡ each_of f n (times n a)
