@@ -3,81 +3,68 @@
 -- Assumes nothing.
 use mathlib.Core.Path.{◌≡◌, refl}
 use Prim.Native.Nat.{ℕ, ◌<◌}
-use Rattle.base_enums.specs.Numbered.{numbered, Decides}
+use Rattle.base_enums.specs.Numbered.{Decides}
 use Rattle.base_enums.proofs.Numbered.{Listed, decides, comes_back}
 use Rattle.base_enums.specs.InterpolationFilter.{filter_number, filters, filter_numbered, filter_of_literal}
 use Rattle.base_enums.specs.declared.InterpolationFilter.TheVariants.{EightTap, EightTapSmooth, EightTapSharp, Bilinear, Switchable}
-use Rattle.base_enums.specs.declared.TryInterpolationFilter.TheVariants as try-filter
 use Rattle.base_enums.specs.ReferenceFrameType.{reference_number, references, reference_numbered}
 use Rattle.base_enums.specs.declared.ReferenceFrameType.TheVariants.{Intra, Last, Golden, AltRef}
-use Rattle.base_enums.specs.declared.TryReferenceFrameType.TheVariants as try-reference
 use Rattle.base_enums.specs.FrameType.{frame_type_number, frame_types, frame_type_numbered}
 use Rattle.base_enums.specs.declared.FrameType.TheVariants.{KeyFrame, InterFrame}
-use Rattle.base_enums.specs.declared.TryFrameType.TheVariants as try-frameType
 use Rattle.base_enums.specs.Profile.{profile_number, profiles, profile_numbered, profile_of}
 use Rattle.base_enums.specs.declared.Profile.TheVariants.{Profile0, Profile1, Profile2, Profile3}
-use Rattle.base_enums.specs.declared.TryProfile.TheVariants as try-profile
 use Rattle.base_enums.specs.BitDepth.{depth_number, depths, depth_numbered}
 use Rattle.base_enums.specs.declared.BitDepth.TheVariants.{Depth8, Depth10, Depth12}
-use Rattle.base_enums.specs.declared.TryBitDepth.TheVariants as try-depth
 use Rattle.base_enums.specs.ColorSpace.{color_space_number, color_spaces, color_space_numbered, color_space_of}
 use Rattle.base_enums.specs.declared.ColorSpace.TheVariants.{Unknown, Bt601, Bt709, Smpte170, Smpte240, Bt2020, Reserved2, CsSrgb}
-use Rattle.base_enums.specs.declared.TryColorSpace.TheVariants as try-colorSpace
 use Rattle.base_enums.specs.ColorRange.{color_range_number, color_ranges, color_range_numbered, color_range_of}
 use Rattle.base_enums.specs.declared.ColorRange.TheVariants.{StudioSwing, FullSwing}
-use Rattle.base_enums.specs.declared.TryColorRange.TheVariants as try-colorRange
 use Rattle.base_enums.specs.declared.InterpolationFilter.{InterpolationFilter}
 
 filters_listed : Listed filter_number filters
-unfolding numbered
 filters_listed EightTap = refl
 filters_listed EightTapSmooth = refl
 filters_listed EightTapSharp = refl
 filters_listed Bilinear = refl
 filters_listed Switchable = refl
 
-pub filters_decided : Decides try-filter.Ok try-filter.Err filter_number filter_numbered
-filters_decided = decides filter_number try-filter.Ok try-filter.Err (λ a b e. cc) (λ a e. cc) filters filters_listed
+pub filters_decided : Decides filter_number filter_numbered
+filters_decided = decides filter_number filters filters_listed
 
 references_listed : Listed reference_number references
-unfolding numbered
 references_listed Intra = refl
 references_listed Last = refl
 references_listed Golden = refl
 references_listed AltRef = refl
 
-pub references_decided : Decides try-reference.Ok try-reference.Err reference_number reference_numbered
-references_decided = decides reference_number try-reference.Ok try-reference.Err (λ a b e. cc) (λ a e. cc) references references_listed
+pub references_decided : Decides reference_number reference_numbered
+references_decided = decides reference_number references references_listed
 
 frame_types_listed : Listed frame_type_number frame_types
-unfolding numbered
 frame_types_listed KeyFrame = refl
 frame_types_listed InterFrame = refl
 
-pub frame_types_decided : Decides try-frameType.Ok try-frameType.Err frame_type_number frame_type_numbered
-frame_types_decided = decides frame_type_number try-frameType.Ok try-frameType.Err (λ a b e. cc) (λ a e. cc) frame_types frame_types_listed
+pub frame_types_decided : Decides frame_type_number frame_type_numbered
+frame_types_decided = decides frame_type_number frame_types frame_types_listed
 
 profiles_listed : Listed profile_number profiles
-unfolding numbered
 profiles_listed Profile0 = refl
 profiles_listed Profile1 = refl
 profiles_listed Profile2 = refl
 profiles_listed Profile3 = refl
 
-pub profiles_decided : Decides try-profile.Ok try-profile.Err profile_number profile_numbered
-profiles_decided = decides profile_number try-profile.Ok try-profile.Err (λ a b e. cc) (λ a e. cc) profiles profiles_listed
+pub profiles_decided : Decides profile_number profile_numbered
+profiles_decided = decides profile_number profiles profiles_listed
 
 depths_listed : Listed depth_number depths
-unfolding numbered
 depths_listed Depth8 = refl
 depths_listed Depth10 = refl
 depths_listed Depth12 = refl
 
-pub depths_decided : Decides try-depth.Ok try-depth.Err depth_number depth_numbered
-depths_decided = decides depth_number try-depth.Ok try-depth.Err (λ a b e. cc) (λ a e. cc) depths depths_listed
+pub depths_decided : Decides depth_number depth_numbered
+depths_decided = decides depth_number depths depths_listed
 
 color_spaces_listed : Listed color_space_number color_spaces
-unfolding numbered
 color_spaces_listed Unknown = refl
 color_spaces_listed Bt601 = refl
 color_spaces_listed Bt709 = refl
@@ -87,16 +74,15 @@ color_spaces_listed Bt2020 = refl
 color_spaces_listed Reserved2 = refl
 color_spaces_listed CsSrgb = refl
 
-pub color_spaces_decided : Decides try-colorSpace.Ok try-colorSpace.Err color_space_number color_space_numbered
-color_spaces_decided = decides color_space_number try-colorSpace.Ok try-colorSpace.Err (λ a b e. cc) (λ a e. cc) color_spaces color_spaces_listed
+pub color_spaces_decided : Decides color_space_number color_space_numbered
+color_spaces_decided = decides color_space_number color_spaces color_spaces_listed
 
 color_ranges_listed : Listed color_range_number color_ranges
-unfolding numbered
 color_ranges_listed StudioSwing = refl
 color_ranges_listed FullSwing = refl
 
-pub color_ranges_decided : Decides try-colorRange.Ok try-colorRange.Err color_range_number color_range_numbered
-color_ranges_decided = decides color_range_number try-colorRange.Ok try-colorRange.Err (λ a b e. cc) (λ a e. cc) color_ranges color_ranges_listed
+pub color_ranges_decided : Decides color_range_number color_range_numbered
+color_ranges_decided = decides color_range_number color_ranges color_ranges_listed
 
 -- The readings of one to three bits lose nothing: what they give has the number that was read.
 pub profile_read : (n : ℕ) → n < 4 → profile_number (profile_of n) ≡ n

@@ -1,10 +1,9 @@
 -- ColorRange: the number of each variant, and the variant of each number.
-use Rattle.std.specs.Prelude.{ℕ, List, [], ◌∷◌, get_or}
-use Rattle.base_enums.specs.Numbered.{numbered, tried}
+use Rattle.std.specs.Prelude.{ℕ, List, [], ◌∷◌, Result, get_or}
+use Rattle.base_enums.specs.Numbered.{numbered}
 use Rattle.base_enums.specs.declared.ColorRange.{ColorRange}
 use Rattle.base_enums.specs.declared.ColorRange.TheVariants.{StudioSwing, FullSwing}
-use Rattle.base_enums.specs.declared.TryColorRange.{TryColorRange}
-use Rattle.base_enums.specs.declared.TryColorRange.TheVariants.{Ok, Err}
+use Rattle.base_enums.specs.declared.UnknownNumber.{UnknownNumber}
 
 -- record: the variants in the order of their numbers
 abbrev pub color_ranges : List ColorRange
@@ -19,5 +18,5 @@ abbrev pub color_range_number : ColorRange → ℕ
 color_range_number StudioSwing = 0
 color_range_number FullSwing = 1
 
-abbrev pub color_range_numbered : ℕ → TryColorRange
-color_range_numbered n = tried Ok Err (numbered color_range_number color_ranges n)
+abbrev pub color_range_numbered : ℕ → Result ColorRange UnknownNumber
+color_range_numbered n = numbered color_range_number color_ranges n

@@ -1,10 +1,9 @@
 -- ColorSpace: the number of each variant, and the variant of each number.
-use Rattle.std.specs.Prelude.{ℕ, List, [], ◌∷◌, get_or}
-use Rattle.base_enums.specs.Numbered.{numbered, tried}
+use Rattle.std.specs.Prelude.{ℕ, List, [], ◌∷◌, Result, get_or}
+use Rattle.base_enums.specs.Numbered.{numbered}
 use Rattle.base_enums.specs.declared.ColorSpace.{ColorSpace}
 use Rattle.base_enums.specs.declared.ColorSpace.TheVariants.{Unknown, Bt601, Bt709, Smpte170, Smpte240, Bt2020, Reserved2, CsSrgb}
-use Rattle.base_enums.specs.declared.TryColorSpace.{TryColorSpace}
-use Rattle.base_enums.specs.declared.TryColorSpace.TheVariants.{Ok, Err}
+use Rattle.base_enums.specs.declared.UnknownNumber.{UnknownNumber}
 
 -- record: the variants in the order of their numbers
 abbrev pub color_spaces : List ColorSpace
@@ -25,5 +24,5 @@ color_space_number Bt2020 = 5
 color_space_number Reserved2 = 6
 color_space_number CsSrgb = 7
 
-abbrev pub color_space_numbered : ℕ → TryColorSpace
-color_space_numbered n = tried Ok Err (numbered color_space_number color_spaces n)
+abbrev pub color_space_numbered : ℕ → Result ColorSpace UnknownNumber
+color_space_numbered n = numbered color_space_number color_spaces n

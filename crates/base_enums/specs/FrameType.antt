@@ -1,10 +1,9 @@
 -- FrameType: the number of each variant, and the variant of each number.
-use Rattle.std.specs.Prelude.{ℕ, List, [], ◌∷◌}
-use Rattle.base_enums.specs.Numbered.{numbered, tried}
+use Rattle.std.specs.Prelude.{ℕ, List, [], ◌∷◌, Result}
+use Rattle.base_enums.specs.Numbered.{numbered}
 use Rattle.base_enums.specs.declared.FrameType.{FrameType}
 use Rattle.base_enums.specs.declared.FrameType.TheVariants.{KeyFrame, InterFrame}
-use Rattle.base_enums.specs.declared.TryFrameType.{TryFrameType}
-use Rattle.base_enums.specs.declared.TryFrameType.TheVariants.{Ok, Err}
+use Rattle.base_enums.specs.declared.UnknownNumber.{UnknownNumber}
 
 -- numbers
 abbrev pub frame_type_number : FrameType → ℕ
@@ -14,5 +13,5 @@ frame_type_number InterFrame = 1
 abbrev pub frame_types : List FrameType
 frame_types = KeyFrame ∷ InterFrame ∷ []
 
-abbrev pub frame_type_numbered : ℕ → TryFrameType
-frame_type_numbered n = tried Ok Err (numbered frame_type_number frame_types n)
+abbrev pub frame_type_numbered : ℕ → Result FrameType UnknownNumber
+frame_type_numbered n = numbered frame_type_number frame_types n

@@ -1,10 +1,9 @@
 -- InterpolationFilter: the number of each variant, and the variant of each number.
-use Rattle.std.specs.Prelude.{ℕ, List, [], ◌∷◌, get_or}
-use Rattle.base_enums.specs.Numbered.{numbered, tried}
+use Rattle.std.specs.Prelude.{ℕ, List, [], ◌∷◌, Result, get_or}
+use Rattle.base_enums.specs.Numbered.{numbered}
 use Rattle.base_enums.specs.declared.InterpolationFilter.{InterpolationFilter}
 use Rattle.base_enums.specs.declared.InterpolationFilter.TheVariants.{EightTap, EightTapSmooth, EightTapSharp, Bilinear, Switchable}
-use Rattle.base_enums.specs.declared.TryInterpolationFilter.{TryInterpolationFilter}
-use Rattle.base_enums.specs.declared.TryInterpolationFilter.TheVariants.{Ok, Err}
+use Rattle.base_enums.specs.declared.UnknownNumber.{UnknownNumber}
 
 -- record: VP9's two-bit literals in order; Switchable has a bit of its own
 abbrev pub literals : List InterpolationFilter
@@ -25,5 +24,5 @@ filter_number Switchable = 4
 abbrev pub filters : List InterpolationFilter
 filters = EightTap ∷ EightTapSmooth ∷ EightTapSharp ∷ Bilinear ∷ Switchable ∷ []
 
-abbrev pub filter_numbered : ℕ → TryInterpolationFilter
-filter_numbered n = tried Ok Err (numbered filter_number filters n)
+abbrev pub filter_numbered : ℕ → Result InterpolationFilter UnknownNumber
+filter_numbered n = numbered filter_number filters n

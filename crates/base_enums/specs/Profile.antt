@@ -1,10 +1,9 @@
 -- Profile: the number of each variant, and the variant of each number.
-use Rattle.std.specs.Prelude.{ℕ, List, [], ◌∷◌, get_or}
-use Rattle.base_enums.specs.Numbered.{numbered, tried}
+use Rattle.std.specs.Prelude.{ℕ, List, [], ◌∷◌, Result, get_or}
+use Rattle.base_enums.specs.Numbered.{numbered}
 use Rattle.base_enums.specs.declared.Profile.{Profile}
 use Rattle.base_enums.specs.declared.Profile.TheVariants.{Profile0, Profile1, Profile2, Profile3}
-use Rattle.base_enums.specs.declared.TryProfile.{TryProfile}
-use Rattle.base_enums.specs.declared.TryProfile.TheVariants.{Ok, Err}
+use Rattle.base_enums.specs.declared.UnknownNumber.{UnknownNumber}
 
 -- record: the variants in the order of their numbers
 abbrev pub profiles : List Profile
@@ -21,5 +20,5 @@ profile_number Profile1 = 1
 profile_number Profile2 = 2
 profile_number Profile3 = 3
 
-abbrev pub profile_numbered : ℕ → TryProfile
-profile_numbered n = tried Ok Err (numbered profile_number profiles n)
+abbrev pub profile_numbered : ℕ → Result Profile UnknownNumber
+profile_numbered n = numbered profile_number profiles n

@@ -1,10 +1,9 @@
 -- ReferenceFrameType: the number of each variant, and the variant of each number.
-use Rattle.std.specs.Prelude.{ℕ, List, [], ◌∷◌}
-use Rattle.base_enums.specs.Numbered.{numbered, tried}
+use Rattle.std.specs.Prelude.{ℕ, List, [], ◌∷◌, Result}
+use Rattle.base_enums.specs.Numbered.{numbered}
 use Rattle.base_enums.specs.declared.ReferenceFrameType.{ReferenceFrameType}
 use Rattle.base_enums.specs.declared.ReferenceFrameType.TheVariants.{Intra, Last, Golden, AltRef}
-use Rattle.base_enums.specs.declared.TryReferenceFrameType.{TryReferenceFrameType}
-use Rattle.base_enums.specs.declared.TryReferenceFrameType.TheVariants.{Ok, Err}
+use Rattle.base_enums.specs.declared.UnknownNumber.{UnknownNumber}
 
 -- numbers
 abbrev pub reference_number : ReferenceFrameType → ℕ
@@ -16,5 +15,5 @@ reference_number AltRef = 3
 abbrev pub references : List ReferenceFrameType
 references = Intra ∷ Last ∷ Golden ∷ AltRef ∷ []
 
-abbrev pub reference_numbered : ℕ → TryReferenceFrameType
-reference_numbered n = tried Ok Err (numbered reference_number references n)
+abbrev pub reference_numbered : ℕ → Result ReferenceFrameType UnknownNumber
+reference_numbered n = numbered reference_number references n

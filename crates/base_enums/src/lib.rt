@@ -11,50 +11,48 @@ ghost use Rattle.base_enums.specs.ColorSpace.{color_space_number, color_space_nu
 ghost use Rattle.base_enums.specs.ColorRange.{color_range_number, color_range_numbered, color_range_of};
 ghost use Rattle.base_enums.specs.SegLvl.{seg_lvl_number};
 
+// A number that no variant has.
+#[derive(Clone, Copy, Debug, PartialEq, Eq)]
+pub struct UnknownNumber;
+
 // How a block is predicted between two pixels.
-#[derive(Clone, Copy)]
+#[derive(Clone, Copy, Debug, PartialEq, Eq)]
 pub enum InterpolationFilter {
-    EightTap,
-    EightTapSmooth,
-    EightTapSharp,
-    Bilinear,
-    Switchable,
+    EightTap = 0,
+    EightTapSmooth = 1,
+    EightTapSharp = 2,
+    Bilinear = 3,
+    Switchable = 4,
 }
 
-#[derive(Clone, Copy)]
-pub enum TryInterpolationFilter {
-    Ok(InterpolationFilter),
-    Err,
+impl From<InterpolationFilter> for u32 {
+    ghost from_gives = { λ x n. n ≡ filter_number x };
+
+    fn from(filter: InterpolationFilter) -> u32 {
+        filter as u32
+    }
+}
+
+impl TryFrom<u32> for InterpolationFilter {
+    type Error = UnknownNumber;
+
+    ghost try_from_gives = { λ n r. r ≡ filter_numbered n };
+
+    fn try_from(value: u32) -> Result<Self, UnknownNumber> {
+        match value {
+            0 => Ok(InterpolationFilter::EightTap),
+            1 => Ok(InterpolationFilter::EightTapSmooth),
+            2 => Ok(InterpolationFilter::EightTapSharp),
+            3 => Ok(InterpolationFilter::Bilinear),
+            4 => Ok(InterpolationFilter::Switchable),
+            _ => Err(UnknownNumber),
+        }
+    }
 }
 
 impl InterpolationFilter {
-    pub fn number(self) -> u32
-        ensures { result ≡ filter_number self }
-    {
-        match self {
-            InterpolationFilter::EightTap => 0,
-            InterpolationFilter::EightTapSmooth => 1,
-            InterpolationFilter::EightTapSharp => 2,
-            InterpolationFilter::Bilinear => 3,
-            InterpolationFilter::Switchable => 4,
-        }
-    }
-
-    pub fn try_from(value: u32) -> TryInterpolationFilter
-        ensures { result ≡ filter_numbered value }
-    {
-        match value {
-            0 => TryInterpolationFilter::Ok(InterpolationFilter::EightTap),
-            1 => TryInterpolationFilter::Ok(InterpolationFilter::EightTapSmooth),
-            2 => TryInterpolationFilter::Ok(InterpolationFilter::EightTapSharp),
-            3 => TryInterpolationFilter::Ok(InterpolationFilter::Bilinear),
-            4 => TryInterpolationFilter::Ok(InterpolationFilter::Switchable),
-            _ => TryInterpolationFilter::Err,
-        }
-    }
-
     // The two bits raw_interpolation_filter, whose order is its own. A larger number is read as the last.
-    pub fn of_two_bits(n: u32) -> InterpolationFilter
+    pub fn of_two_bits(n: u32) -> Self
         ensures { result ≡ filter_of_literal n }
     {
         match n {
@@ -67,120 +65,103 @@ impl InterpolationFilter {
 }
 
 // What a block is predicted from.
-#[derive(Clone, Copy)]
+#[derive(Clone, Copy, Debug, PartialEq, Eq)]
 pub enum ReferenceFrameType {
-    Intra,
-    Last,
-    Golden,
-    AltRef,
+    Intra = 0,
+    Last = 1,
+    Golden = 2,
+    AltRef = 3,
 }
 
-#[derive(Clone, Copy)]
-pub enum TryReferenceFrameType {
-    Ok(ReferenceFrameType),
-    Err,
-}
+impl From<ReferenceFrameType> for u32 {
+    ghost from_gives = { λ x n. n ≡ reference_number x };
 
-impl ReferenceFrameType {
-    pub fn number(self) -> u32
-        ensures { result ≡ reference_number self }
-    {
-        match self {
-            ReferenceFrameType::Intra => 0,
-            ReferenceFrameType::Last => 1,
-            ReferenceFrameType::Golden => 2,
-            ReferenceFrameType::AltRef => 3,
-        }
+    fn from(reference: ReferenceFrameType) -> u32 {
+        reference as u32
     }
+}
 
-    pub fn try_from(value: u32) -> TryReferenceFrameType
-        ensures { result ≡ reference_numbered value }
-    {
+impl TryFrom<u32> for ReferenceFrameType {
+    type Error = UnknownNumber;
+
+    ghost try_from_gives = { λ n r. r ≡ reference_numbered n };
+
+    fn try_from(value: u32) -> Result<Self, UnknownNumber> {
         match value {
-            0 => TryReferenceFrameType::Ok(ReferenceFrameType::Intra),
-            1 => TryReferenceFrameType::Ok(ReferenceFrameType::Last),
-            2 => TryReferenceFrameType::Ok(ReferenceFrameType::Golden),
-            3 => TryReferenceFrameType::Ok(ReferenceFrameType::AltRef),
-            _ => TryReferenceFrameType::Err,
+            0 => Ok(ReferenceFrameType::Intra),
+            1 => Ok(ReferenceFrameType::Last),
+            2 => Ok(ReferenceFrameType::Golden),
+            3 => Ok(ReferenceFrameType::AltRef),
+            _ => Err(UnknownNumber),
         }
     }
 }
 
 // A key frame needs no frame before it.
-#[derive(Clone, Copy)]
+#[derive(Clone, Copy, Debug, PartialEq, Eq)]
 pub enum FrameType {
-    KeyFrame,
-    InterFrame,
+    KeyFrame = 0,
+    InterFrame = 1,
 }
 
-#[derive(Clone, Copy)]
-pub enum TryFrameType {
-    Ok(FrameType),
-    Err,
-}
+impl From<FrameType> for u8 {
+    ghost from_gives = { λ x n. n ≡ frame_type_number x };
 
-impl FrameType {
-    pub fn number(self) -> u8
-        ensures { result ≡ frame_type_number self }
-    {
-        match self {
-            FrameType::KeyFrame => 0,
-            FrameType::InterFrame => 1,
-        }
+    fn from(frame_type: FrameType) -> u8 {
+        frame_type as u8
     }
+}
 
-    pub fn try_from(value: u8) -> TryFrameType
-        ensures { result ≡ frame_type_numbered value }
-    {
+impl TryFrom<u8> for FrameType {
+    type Error = UnknownNumber;
+
+    ghost try_from_gives = { λ n r. r ≡ frame_type_numbered n };
+
+    fn try_from(value: u8) -> Result<Self, UnknownNumber> {
         match value {
-            0 => TryFrameType::Ok(FrameType::KeyFrame),
-            1 => TryFrameType::Ok(FrameType::InterFrame),
-            _ => TryFrameType::Err,
+            0 => Ok(FrameType::KeyFrame),
+            1 => Ok(FrameType::InterFrame),
+            _ => Err(UnknownNumber),
         }
     }
 }
 
 // Profiles 1 and 3 choose the subsampling, 2 and 3 the depth.
-#[derive(Clone, Copy)]
+#[derive(Clone, Copy, Debug, PartialEq, Eq)]
 pub enum Profile {
-    Profile0,
-    Profile1,
-    Profile2,
-    Profile3,
+    Profile0 = 0,
+    Profile1 = 1,
+    Profile2 = 2,
+    Profile3 = 3,
 }
 
-#[derive(Clone, Copy)]
-pub enum TryProfile {
-    Ok(Profile),
-    Err,
+impl From<Profile> for u32 {
+    ghost from_gives = { λ x n. n ≡ profile_number x };
+
+    fn from(profile: Profile) -> u32 {
+        profile as u32
+    }
+}
+
+impl TryFrom<u32> for Profile {
+    type Error = UnknownNumber;
+
+    ghost try_from_gives = { λ n r. r ≡ profile_numbered n };
+
+    fn try_from(value: u32) -> Result<Self, UnknownNumber> {
+        match value {
+            0 => Ok(Profile::Profile0),
+            1 => Ok(Profile::Profile1),
+            2 => Ok(Profile::Profile2),
+            3 => Ok(Profile::Profile3),
+            _ => Err(UnknownNumber),
+        }
+    }
 }
 
 impl Profile {
-    pub fn number(self) -> u32
-        ensures { result ≡ profile_number self }
-    {
-        match self {
-            Profile::Profile0 => 0,
-            Profile::Profile1 => 1,
-            Profile::Profile2 => 2,
-            Profile::Profile3 => 3,
-        }
-    }
-
-    pub fn try_from(value: u32) -> TryProfile
-        ensures { result ≡ profile_numbered value }
-    {
-        match value {
-            0 => TryProfile::Ok(Profile::Profile0),
-            1 => TryProfile::Ok(Profile::Profile1),
-            2 => TryProfile::Ok(Profile::Profile2),
-            3 => TryProfile::Ok(Profile::Profile3),
-            _ => TryProfile::Err,
-        }
-    }
-
     // The two profile bits, the high bit worth 2. A larger number is read as the last.
-    pub fn of_two_bits(n: u32) -> Profile
+    pub fn of_two_bits(n: u32) -> Self
         ensures { result ≡ profile_of n }
     {
         match n {
@@ -193,95 +174,80 @@ impl Profile {
 }
 
 // Bits in a sample.
-#[derive(Clone, Copy)]
+#[derive(Clone, Copy, Debug, PartialEq, Eq)]
 pub enum BitDepth {
-    Depth8,
-    Depth10,
-    Depth12,
+    Depth8 = 8,
+    Depth10 = 10,
+    Depth12 = 12,
 }
 
-#[derive(Clone, Copy)]
-pub enum TryBitDepth {
-    Ok(BitDepth),
-    Err,
-}
+impl From<BitDepth> for u32 {
+    ghost from_gives = { λ x n. n ≡ depth_number x };
 
-impl BitDepth {
-    pub fn number(self) -> u32
-        ensures { result ≡ depth_number self }
-    {
-        match self {
-            BitDepth::Depth8 => 8,
-            BitDepth::Depth10 => 10,
-            BitDepth::Depth12 => 12,
-        }
+    fn from(depth: BitDepth) -> u32 {
+        depth as u32
     }
+}
 
-    pub fn try_from(value: u32) -> TryBitDepth
-        ensures { result ≡ depth_numbered value }
-    {
+impl TryFrom<u32> for BitDepth {
+    type Error = UnknownNumber;
+
+    ghost try_from_gives = { λ n r. r ≡ depth_numbered n };
+
+    fn try_from(value: u32) -> Result<Self, UnknownNumber> {
         match value {
-            8 => TryBitDepth::Ok(BitDepth::Depth8),
-            10 => TryBitDepth::Ok(BitDepth::Depth10),
-            12 => TryBitDepth::Ok(BitDepth::Depth12),
-            _ => TryBitDepth::Err,
+            8 => Ok(BitDepth::Depth8),
+            10 => Ok(BitDepth::Depth10),
+            12 => Ok(BitDepth::Depth12),
+            _ => Err(UnknownNumber),
         }
     }
 }
 
 // The colour space by VP9's three-bit number.
-#[derive(Clone, Copy)]
+#[derive(Clone, Copy, Debug, PartialEq, Eq)]
 pub enum ColorSpace {
-    Unknown,
-    Bt601,
-    Bt709,
-    Smpte170,
-    Smpte240,
-    Bt2020,
-    Reserved2,
-    CsSrgb,
+    Unknown = 0,
+    Bt601 = 1,
+    Bt709 = 2,
+    Smpte170 = 3,
+    Smpte240 = 4,
+    Bt2020 = 5,
+    Reserved2 = 6,
+    CsSrgb = 7,
 }
 
-#[derive(Clone, Copy)]
-pub enum TryColorSpace {
-    Ok(ColorSpace),
-    Err,
+impl From<ColorSpace> for u32 {
+    ghost from_gives = { λ x n. n ≡ color_space_number x };
+
+    fn from(space: ColorSpace) -> u32 {
+        space as u32
+    }
+}
+
+impl TryFrom<u32> for ColorSpace {
+    type Error = UnknownNumber;
+
+    ghost try_from_gives = { λ n r. r ≡ color_space_numbered n };
+
+    fn try_from(value: u32) -> Result<Self, UnknownNumber> {
+        match value {
+            0 => Ok(ColorSpace::Unknown),
+            1 => Ok(ColorSpace::Bt601),
+            2 => Ok(ColorSpace::Bt709),
+            3 => Ok(ColorSpace::Smpte170),
+            4 => Ok(ColorSpace::Smpte240),
+            5 => Ok(ColorSpace::Bt2020),
+            6 => Ok(ColorSpace::Reserved2),
+            7 => Ok(ColorSpace::CsSrgb),
+            _ => Err(UnknownNumber),
+        }
+    }
 }
 
 impl ColorSpace {
-    pub fn number(self) -> u32
-        ensures { result ≡ color_space_number self }
-    {
-        match self {
-            ColorSpace::Unknown => 0,
-            ColorSpace::Bt601 => 1,
-            ColorSpace::Bt709 => 2,
-            ColorSpace::Smpte170 => 3,
-            ColorSpace::Smpte240 => 4,
-            ColorSpace::Bt2020 => 5,
-            ColorSpace::Reserved2 => 6,
-            ColorSpace::CsSrgb => 7,
-        }
-    }
-
-    pub fn try_from(value: u32) -> TryColorSpace
-        ensures { result ≡ color_space_numbered value }
-    {
-        match value {
-            0 => TryColorSpace::Ok(ColorSpace::Unknown),
-            1 => TryColorSpace::Ok(ColorSpace::Bt601),
-            2 => TryColorSpace::Ok(ColorSpace::Bt709),
-            3 => TryColorSpace::Ok(ColorSpace::Smpte170),
-            4 => TryColorSpace::Ok(ColorSpace::Smpte240),
-            5 => TryColorSpace::Ok(ColorSpace::Bt2020),
-            6 => TryColorSpace::Ok(ColorSpace::Reserved2),
-            7 => TryColorSpace::Ok(ColorSpace::CsSrgb),
-            _ => TryColorSpace::Err,
-        }
-    }
-
     // The three bits color_space. A larger number is read as the last.
-    pub fn of_three_bits(n: u32) -> ColorSpace
+    pub fn of_three_bits(n: u32) -> Self
         ensures { result ≡ color_space_of n }
     {
         match n {
@@ -298,40 +264,37 @@ impl ColorSpace {
 }
 
 // Whether samples leave head room.
-#[derive(Clone, Copy)]
+#[derive(Clone, Copy, Debug, PartialEq, Eq)]
 pub enum ColorRange {
-    StudioSwing,
-    FullSwing,
+    StudioSwing = 0,
+    FullSwing = 1,
 }
 
-#[derive(Clone, Copy)]
-pub enum TryColorRange {
-    Ok(ColorRange),
-    Err,
+impl From<ColorRange> for u32 {
+    ghost from_gives = { λ x n. n ≡ color_range_number x };
+
+    fn from(range: ColorRange) -> u32 {
+        range as u32
+    }
+}
+
+impl TryFrom<u32> for ColorRange {
+    type Error = UnknownNumber;
+
+    ghost try_from_gives = { λ n r. r ≡ color_range_numbered n };
+
+    fn try_from(value: u32) -> Result<Self, UnknownNumber> {
+        match value {
+            0 => Ok(ColorRange::StudioSwing),
+            1 => Ok(ColorRange::FullSwing),
+            _ => Err(UnknownNumber),
+        }
+    }
 }
 
 impl ColorRange {
-    pub fn number(self) -> u32
-        ensures { result ≡ color_range_number self }
-    {
-        match self {
-            ColorRange::StudioSwing => 0,
-            ColorRange::FullSwing => 1,
-        }
-    }
-
-    pub fn try_from(value: u32) -> TryColorRange
-        ensures { result ≡ color_range_numbered value }
-    {
-        match value {
-            0 => TryColorRange::Ok(ColorRange::StudioSwing),
-            1 => TryColorRange::Ok(ColorRange::FullSwing),
-            _ => TryColorRange::Err,
-        }
-    }
-
     // The bit color_range. A larger number is read as the last.
-    pub fn of_bit(n: u32) -> ColorRange
+    pub fn of_bit(n: u32) -> Self
         ensures { result ≡ color_range_of n }
     {
         match n {
@@ -342,23 +305,18 @@ impl ColorRange {
 }
 
 // A segment's features, in the order in which they are read.
-#[derive(Clone, Copy)]
+#[derive(Clone, Copy, Debug, PartialEq, Eq)]
 pub enum SegLvl {
-    AltQ,
-    AltL,
-    RefFrame,
-    LvlSkip,
+    AltQ = 0,
+    AltL = 1,
+    RefFrame = 2,
+    LvlSkip = 3,
 }
 
-impl SegLvl {
-    pub fn number(self) -> u32
-        ensures { result ≡ seg_lvl_number self }
-    {
-        match self {
-            SegLvl::AltQ => 0,
-            SegLvl::AltL => 1,
-            SegLvl::RefFrame => 2,
-            SegLvl::LvlSkip => 3,
-        }
+impl From<SegLvl> for u32 {
+    ghost from_gives = { λ x n. n ≡ seg_lvl_number x };
+
+    fn from(feature: SegLvl) -> u32 {
+        feature as u32
     }
 }
