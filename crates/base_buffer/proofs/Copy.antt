@@ -1,33 +1,21 @@
--- Bytes copied to the front one after the other, from a place that the copies haven't reached.
+-- The copy to the front, as the code makes it.
 -- Assumes nothing.
-use Prim.Native.Nat.{ℕ, suc, ◌+◌, ◌<◌}
-use mathlib.Core.Path.{◌≡◌, sym, ap, ◌∙◌}
+use Prim.Native.Nat.{ℕ, ◌-◌, ◌<◌, ◌≤◌, min}
+use mathlib.Core.Path.{◌≡◌, ◌∙◌}
+use mathlib.Core.Logic.{⊎_elim}
 use mathlib.Core.List.{List}
 use native.Mathlib.Nat.{zero-add}
 use native.Mathlib.Omega.{arith}
-use lib.ListN.{length, get_or, set, drop, length-drop}
-use lib.Seq.{paste, paste-suc, drop-paste, get_or-drop}
+use lib.ListN.{length, take, drop}
+use lib.Seq.{paste}
+use Rattle.std.proofs.lemmas.Bool.{cases_lt}
 use Rattle.base_buffer.specs.Front.{held, front_of, Moved}
 
--- the first i bytes from `start` on, copied to the front
-abbrev pub copied : List ℕ → ℕ → ℕ → List ℕ
-copied s start i = paste s 0 (drop start s) i
-
--- what isn't copied over is as it was
-ahead : (s : List ℕ) (start i : ℕ) → start + i < length s → get_or (copied s start i) (start + i) 0 ≡ get_or (drop start s) i 0
-ahead s start i h =
-    let e : start + i ≡ 0 + i + start = omega arith in
-    rw e (sym (get_or-drop (0 + i) (copied s start i) start 0)
-    ∙ ap (λ (l : List ℕ). get_or l start 0) (drop-paste s 0 (drop start s) i (omega arith) (omega (arith, length-drop start s)))
-    ∙ get_or-drop (0 + i) s start 0)
-    ∙ ap (λ (k : ℕ). get_or s k 0) (sym e)
-    ∙ sym (get_or-drop start s i 0)
-
-pub one_more_lem : (s : List ℕ) (start i : ℕ) → start + i < length s → set (copied s start i) i (get_or (copied s start i) (start + i) 0) ≡ copied s start (suc i)
-one_more_lem s start i h =
-    rw (ahead s start i h) (ap (λ (k : ℕ). set (copied s start i) k (get_or (drop start s) i 0)) (sym (zero-add i))
-    ∙ paste-suc s 0 (drop start s) i 0 (omega arith) (omega (arith, length-drop start s)))
-
-pub all_moved : (s : List ℕ) (start end : ℕ) {n : ℕ} {t : List ℕ} → n ≡ held s start end → t ≡ copied s start n → Moved s start end n t
+-- a and b: where the bytes that count start and end
+pub moved : (s : List ℕ) (start end : ℕ) {a b n : ℕ} {t : List ℕ} → b ≡ min end (length s) → a ≡ min start b → n ≡ b - a → t ≡ paste s 0 (drop a s) (b - a) → Moved s start end n t
 unfolding front_of
-all_moved s start end e m = record { counted = e; bytes = m ∙ rw (e, zero-add) }
+moved s start end {a} {b} {n} {t} f e c m =
+    let h : n ≡ held s start end = omega arith in
+    let none : b ≤ start → take n (drop a s) ≡ take n (drop start s) = λ l. let z : n ≡ 0 = omega arith in rw z in
+    let some : start < b → take n (drop a s) ≡ take n (drop start s) = λ l. let i : a ≡ start = omega arith in rw i in
+    record { counted = h; bytes = m ∙ rw (← c, ⊎_elim some none (cases_lt start b), h, zero-add) }

@@ -1,17 +1,16 @@
 -- A text put after a text is both put as one.
 -- Assumes nothing.
 use Prim.Native.Nat.{ℕ, suc, ◌+◌, ◌-◌, ◌<◌, ◌≤◌, min}
-use mathlib.Core.Path.{◌≡◌, refl, sym, ◌∙◌, ap}
-use mathlib.Core.Logic.{◌⊎◌, inl, inr, ⊎_elim}
+use mathlib.Core.Path.{◌≡◌, sym, ◌∙◌, ap}
+use mathlib.Core.Logic.{⊎_elim}
 use mathlib.Core.List.{List, [], ◌∷◌, ◌++◌, append_assoc}
-use mathlib.Core.Bool.{Bool, true, false}
 use native.Mathlib.Nat.{add_assoc}
 use native.Mathlib.Numerals.{add-one}
 use native.Mathlib.Omega.{arith}
-use lib.ListN.{length, take, drop, set, length-append}
-use lib.Seq.{set_split, paste, paste-zero, length-paste, take-paste, drop-paste, drop-drop, take-append-add, take-append-le, take-length}
-use lib.Dec.{ltb}
-use borrow.Author.Tests.{ltb-true, ltb-false}
+use lib.ListN.{length, take, drop, set, length-append, length-take}
+use lib.Seq.{set_split, paste, paste-zero, length-paste, take-paste, drop-paste, drop-drop, take-append-add, take-append-le, take-length, take_all}
+use borrow.Rule.Slice.PartMut.{put_mid}
+use Rattle.std.proofs.lemmas.Slice.{put_mid-paste}
 use Rattle.base_bytes.specs.Put.{fitting, put_into, place_after, Written}
 use Rattle.base_shared.proofs.Order.{below}
 
@@ -87,14 +86,19 @@ pub written : {out t out₁ : List ℕ} {at n : ℕ} → n ≡ fitting out at t 
 unfolding place_after put_into
 written e c = record { place = rw e; text = c ∙ rw e }
 
--- of one byte
-module _ {out : List ℕ} {at : ℕ} (byte : ℕ) where
-  pub byte_fits : at < length out → Written out at (byte ∷ []) (at + 1) (set out at byte)
-  byte_fits h = let e : 1 ≡ fitting out at (byte ∷ []) = omega arith in written e (set_split out at byte h ∙ rw (add-one at) (sym (append_assoc (take at out) (byte ∷ []) (drop (suc at) out))))
+pub copied : {out t part : List ℕ} {at k n : ℕ} → n ≡ fitting out at t → part ≡ take n t → k ≡ n → Written out at t (at + n) (put_mid at k out part)
+copied {out} {t} {part} {at} {k} {n} e p q =
+    let l : n ≡ length (take n t) = omega (arith, length-take n t) in
+    written e (put_mid-paste at k out part (take n t) n p (sym q) l ∙ rw (take_all n (take n t) (omega arith)))
 
-  pub no_room : length out ≤ at → Written out at (byte ∷ []) at out
-  unfolding place_after put_into
-  no_room h = let z : fitting out at (byte ∷ []) ≡ 0 = omega arith in record { place = rw z (omega arith); text = rw z (paste-zero out at (byte ∷ [])) }
+-- where the place is past the end
+pub past_end : (out : List ℕ) (at : ℕ) (t : List ℕ) → length out ≤ at → Written out at t at out
+unfolding place_after
+past_end out at t h = record { place = omega arith; text = sym (nothing_more out at t h) }
+
+-- of one byte
+pub byte_fits : {out : List ℕ} {at : ℕ} (byte : ℕ) → at < length out → Written out at (byte ∷ []) (at + 1) (set out at byte)
+byte_fits {out} {at} byte h = let e : 1 ≡ fitting out at (byte ∷ []) = omega arith in written e (set_split out at byte h ∙ rw (add-one at) (sym (append_assoc (take at out) (byte ∷ []) (drop (suc at) out))))
 
 -- a text that fits stands whole
 module _ {out t : List ℕ} {at next : ℕ} {after : List ℕ} (w : Written out at t next after) (h : at + length t ≤ length out) where

@@ -6,36 +6,15 @@ ghost use Rattle.std.proofs.Math.Seq.{paste};
 ghost use Rattle.base_little.specs.Little.{spell_little};
 ghost use Rattle.base_bytes.specs.Put.{Written};
 
-fn least(a: usize, b: usize) -> usize
-    ensures { result ≡ min a b }
-{
-    if a < b { a } else { b }
-}
-
-// How many bytes there are from `at` on.
-fn room(len: usize, at: usize) -> usize
-    ensures { result ≡ len - at }
-{
-    if at < len { len - at } else { 0 }
-}
-
-fn copy(out: &mut [u8], at: usize, text: &[u8], n: usize)
-    requires { (n ≤ length text.now) × (n ≤ length out.old - at) }
-    ensures { out.new ≡ paste out.old at text.now n }
-{
-    let mut i = 0;
-    while i < n {
-        out[at + i] = text[i];
-        i += 1;
-    }
-}
-
 // As much of the text as there is room for.
 pub fn put(out: &mut [u8], at: usize, text: &[u8]) -> usize
     ensures { Written out.old at text.now result out.new }
 {
-    let n = least(text.len(), room(out.len(), at));
-    copy(out, at, text, n);
+    if at >= out.len() {
+        return at;
+    }
+    let n = text.len().min(out.len() - at);
+    out[at..at + n].copy_from_slice(&text[..n]);
     at + n
 }
 

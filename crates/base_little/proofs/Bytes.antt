@@ -8,7 +8,8 @@ use native.Mathlib.Nat.{pow-le-pow_right, pow-succ'}
 use native.Mathlib.Omega.{arith}
 use lib.ListN.{length, get_or}
 use borrow.Author.Tests.{le-leb, lt-leb, le-ltb, lt-ltb}
-use Rattle.base_little.specs.declared.Little.TheVariants.{Value, Short, TooWide}
+use Rattle.base_little.specs.declared.LittleError.TheVariants.{Short, TooWide}
+use Rattle.std.specs.Prelude.{Ok, Err}
 use Rattle.base_little.specs.Little.{little, holds, read_little}
 
 -- one more byte in front
@@ -45,18 +46,18 @@ holds_no s at (suc n) z h = le-ltb (at + n) (length s) (omega arith)
 
 -- the four answers
 module _ (s : List ℕ) (at n : ℕ) where
-  pub little_wide : 8 < n → TooWide ≡ read_little s at n
+  pub little_wide : 8 < n → Err TooWide ≡ read_little s at n
   unfolding read_little
   little_wide h = simp (lt-leb n 8 h)
 
-  pub little_nothing : n ≡ 0 → Value 0 ≡ read_little s at n
+  pub little_nothing : n ≡ 0 → Ok 0 ≡ read_little s at n
   unfolding read_little holds little
   little_nothing h = simp h
 
-  pub little_short : n ≤ 8 → (n ≡ 0 → ⊥) → length s < at + n → Short ≡ read_little s at n
+  pub little_short : n ≤ 8 → (n ≡ 0 → ⊥) → length s < at + n → Err Short ≡ read_little s at n
   unfolding read_little
   little_short h z l = simp (le-leb n 8 h, holds_no s at n z l)
 
-  pub little_value : (x : ℕ) → x ≡ little s at n → n ≤ 8 → at + n ≤ length s → Value x ≡ read_little s at n
+  pub little_value : (x : ℕ) → x ≡ little s at n → n ≤ 8 → at + n ≤ length s → Ok x ≡ read_little s at n
   unfolding read_little
   little_value x e h l = simp (le-leb n 8 h, holds_yes s at n l, e)

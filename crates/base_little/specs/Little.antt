@@ -1,9 +1,9 @@
 -- Numbers of whole bytes, low byte first: le(n) of VP9's Annex B, and IVF's.
 -- Assumes nothing.
-use Rattle.std.specs.Prelude.{ℕ, zero, suc, ◌+◌, ◌*◌, ◌/◌, ◌%◌, Bool, true, List, [], ◌∷◌, leb, ltb, length, get_or}
+use Rattle.std.specs.Prelude.{ℕ, zero, suc, ◌+◌, ◌*◌, ◌/◌, ◌%◌, Bool, true, Result, Ok, Err, List, [], ◌∷◌, leb, ltb, length, get_or}
 use Rattle.base_shared.specs.Choice.{pick}
-use Rattle.base_little.specs.declared.Little.{Little}
-use Rattle.base_little.specs.declared.Little.TheVariants.{Value, Short, TooWide}
+use Rattle.base_little.specs.declared.LittleError.{LittleError}
+use Rattle.base_little.specs.declared.LittleError.TheVariants.{Short, TooWide}
 
 -- the number of the n bytes from `at` on
 unfoldable pub little : List ℕ → ℕ → ℕ → ℕ
@@ -20,5 +20,5 @@ unfoldable pub holds : List ℕ → ℕ → ℕ → Bool
 holds s at zero = true
 holds s at (suc n) = ltb (at + n) (length s)
 
-unfoldable pub read_little : List ℕ → ℕ → ℕ → Little
-read_little s at n = pick (leb n 8) (pick (holds s at n) (Value (little s at n)) Short) TooWide
+unfoldable pub read_little : List ℕ → ℕ → ℕ → Result ℕ LittleError
+read_little s at n = pick (leb n 8) (pick (holds s at n) (Ok (little s at n)) (Err Short)) (Err TooWide)

@@ -4,18 +4,12 @@
 ghost use Rattle.std.specs.Prelude.{◌+◌, ◌≤◌, ◌≡◌, length};
 ghost use Rattle.base_little.specs.Little.{little, read_little};
 
-#[derive(Clone, Copy)]
-pub enum Little {
-    Value(u64),
+// Why there is no number.
+#[derive(Clone, Copy, Debug, PartialEq, Eq)]
+pub enum LittleError {
     Short,
     // Over 8 bytes were asked for.
     TooWide,
-}
-
-fn wide(x: u8) -> u64
-    ensures { result ≡ x }
-{
-    x as u64
 }
 
 // The n bytes from `at` on, from the last to the first.
@@ -24,29 +18,24 @@ fn gather(s: &[u8], at: usize, n: usize) -> u64
     ensures { result ≡ little s.now at n }
 {
     let mut sum: u64 = 0;
-    let mut k = n;
-    while 0 < k {
-        k -= 1;
-        sum = sum * 256 + wide(s[at + k]);
+    for k in (0..n).rev() {
+        sum = sum * 256 + u64::from(s[at + k]);
     }
     sum
 }
 
 // The number of n bytes at a byte place, low byte first.
-pub fn read_little(s: &[u8], at: usize, n: usize) -> Little
+pub fn read_little(s: &[u8], at: usize, n: usize) -> Result<u64, LittleError>
     ensures { result ≡ read_little s.now at n }
 {
     if n > 8 {
-        return Little::TooWide;
+        return Err(LittleError::TooWide);
     }
     if n == 0 {
-        return Little::Value(0);
+        return Ok(0);
     }
-    if at > s.len() {
-        return Little::Short;
+    if at > s.len() || n > s.len() - at {
+        return Err(LittleError::Short);
     }
-    if n > s.len() - at {
-        return Little::Short;
-    }
-    Little::Value(gather(s, at, n))
+    Ok(gather(s, at, n))
 }

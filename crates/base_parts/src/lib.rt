@@ -7,19 +7,12 @@ ghost use Rattle.std.specs.Prelude.{◌≡◌, take, drop};
 pub fn front(s: &[u8], n: usize) -> &[u8]
     ensures { result.now ≡ take n s.now }
 {
-    if n > s.len() {
-        return s;
-    }
-    let start = 0;
-    &s[start..n]
+    s.get(..n).unwrap_or(s)
 }
 
 // What stands from `at` on, which is nothing past the end.
 pub fn rest(s: &[u8], at: usize) -> &[u8]
     ensures { result.now ≡ drop at s.now }
 {
-    if at > s.len() {
-        return &s[0..0];
-    }
-    &s[at..]
+    s.get(at..).unwrap_or(&[])
 }

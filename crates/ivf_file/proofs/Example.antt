@@ -6,7 +6,7 @@ use mathlib.Core.Path.{◌≡◌, refl}
 use mathlib.Core.Bool.{false}
 use mathlib.Core.List.{List, [], ◌∷◌}
 use Rattle.base_little.specs.Little.{little}
-use Rattle.ivf_file.specs.declared.FileRead.TheVariants.{Header}
+use Rattle.std.specs.Prelude.{Ok}
 use Rattle.ivf_file.specs.File.{stands_at, is_ivf, file_header_of, file_of}
 use Rattle.ivf_file.specs.Record.{record_at, cut_short, record_of}
 use Rattle.ivf_file.specs.Records.{records_from, records_of}
@@ -22,7 +22,7 @@ wide =
     ∷ 0x13 ∷ 0x00 ∷ 0x00 ∷ 0x00 ∷ 0x01 ∷ 0x00 ∷ 0x00 ∷ 0x00 ∷ 0x00 ∷ 0x00 ∷ 0x00 ∷ 0x00 ∷ 0x86 ∷ 0x00 ∷ 0x40 ∷ 0x92
     ∷ 0x9c ∷ 0x74 ∷ 0x54 ∷ 0x60 ∷ 0x00 ∷ 0x05 ∷ 0x70 ∷ 0x1d ∷ 0x06 ∷ 0x00 ∷ 0x00 ∷ 0x25 ∷ 0x0d ∷ 0x9e ∷ 0x80 ∷ []
 
-pub wide_header : file_of wide ≡ Header (record { width = 448; height = 16; rate = 30; scale = 1; count = 2 })
+pub wide_header : file_of wide ≡ Ok (record { width = 448; height = 16; rate = 30; scale = 1; count = 2 })
 unfolding file_of is_ivf stands_at file_header_of little
 wide_header = refl
 

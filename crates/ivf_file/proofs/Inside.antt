@@ -7,15 +7,15 @@ use mathlib.Core.List.{List}
 use native.Mathlib.Omega.{arith}
 use lib.ListN.{length}
 use Rattle.ivf_file.specs.declared.Record.{Record}
-use Rattle.ivf_file.specs.declared.RecordRead.TheVariants as read
+use Rattle.std.specs.Prelude.{Some, Ok}
 use Rattle.ivf_file.specs.Record.{data_end, record_at, record_of}
 use Rattle.ivf_file.specs.Table.{Lies}
 use Rattle.ivf_file.proofs.Table.{record_exactly}
 
-module _ (f : List ℕ) (p : ℕ) (r : Record) (e : record_of f p ≡ read.Record r) where
+module _ (f : List ℕ) (p : ℕ) (r : Record) (e : record_of f p ≡ Ok (Some r)) where
   pub whole : (data_end f p ≤ length f) × (r ≡ record_at f p)
   whole =
-      let k = (record_exactly f p (read.Record r)).0 e in
+      let k = (record_exactly f p (Ok (Some r))).0 e in
       let n : length f < data_end f p → ⊥ = λ l. k.0 (inr l) in
       (omega arith, k.1)
 

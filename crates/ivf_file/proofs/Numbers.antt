@@ -1,27 +1,18 @@
 -- Numbers of bytes that are there: what reading one answers, and that it is below 256 to the number of bytes.
 -- Assumes nothing.
-use Prim.Native.Nat.{ℕ, zero, suc, ◌+◌, ◌*◌, ◌^◌, ◌<◌, ◌≤◌}
+use Prim.Native.Nat.{ℕ, ◌+◌, ◌^◌, ◌<◌, ◌≤◌}
 use mathlib.Core.Path.{◌≡◌, sym, ◌∙◌, refl}
-use mathlib.Core.List.{List, [], ◌∷◌}
-use mathlib.Core.Logic.{⊎_elim}
-use native.Mathlib.Nat.{pow-succ'}
-use native.Mathlib.Omega.{arith}
-use Rattle.base_shared.proofs.Other.{NotOne}
-use denote.Enum.Declared.{tag_of}
+use mathlib.Core.List.{List}
 use lib.ListN.{length, get_or}
-use Rattle.base_little.specs.declared.Little.{Little}
-use Rattle.base_little.specs.declared.Little.TheVariants.{Value}
+use Rattle.std.specs.Prelude.{Result, Ok}
+use Rattle.base_little.specs.declared.LittleError.{LittleError}
 use Rattle.base_little.specs.Little.{little, read_little}
 use Rattle.base_little.proofs.Bytes.{little_value}
-use Rattle.base_little.specs.contracts.Little.{the_type}
 use Rattle.base_little.proofs.Spelling.{little_lt}
 
-module _ (s : List ℕ) (at n : ℕ) (small : n ≤ 8) (there : at + n ≤ length s) (r : Little) (e : r ≡ read_little s at n) where
-  known : r ≡ Value (little s at n)
+module _ (s : List ℕ) (at n : ℕ) (small : n ≤ 8) (there : at + n ≤ length s) (r : Result ℕ LittleError) (e : r ≡ read_little s at n) where
+  pub known : r ≡ Ok (little s at n)
   known = e ∙ sym (little_value s at n (little s at n) refl small there)
 
-  pub number_read : ((i : ℕ) → get_or s i 0 < 256) → (z : ℕ) → r ≡ Value z → (z ≡ little s at n) × (z < 256 ^ n)
+  pub number_read : ((i : ℕ) → get_or s i 0 < 256) → (z : ℕ) → r ≡ Ok z → (z ≡ little s at n) × (z < 256 ^ n)
   number_read bytes z h = let k : z ≡ little s at n = cc known in (k, rw k (little_lt s bytes at n))
-
-  pub number_there : NotOne Value r → (0 ≡ little s at n) × (0 < 256 ^ n)
-  number_there h = absurd (h _ known)

@@ -1,21 +1,20 @@
 -- A caller that lends only a part of the file: the header is in its first 32 bytes, and a record's length in
 -- the record's first 12.
 -- Assumes nothing.
-use Prim.Native.Nat.{ℕ, zero, suc, ◌+◌, ◌*◌, ◌<◌, ◌≤◌}
+use Prim.Native.Nat.{ℕ, zero, suc, ◌+◌, ◌<◌, ◌≤◌}
 use mathlib.Core.Path.{◌≡◌, refl, sym}
 use mathlib.Core.Logic.{⊎_elim}
 use mathlib.Core.List.{List, [], ◌∷◌}
 use native.Mathlib.Nat.{add-zero, zero-add}
 use native.Mathlib.Omega.{arith}
-use lib.ListN.{length, get_or, take, drop, length-take, length-drop}
+use lib.ListN.{length, take, drop, length-take, length-drop}
 use lib.Seq.{get_or-drop, get_or-take, take_all, length-take-le}
 use borrow.Author.Tests.{le-leb}
-use Rattle.base_little.specs.declared.Little.TheVariants.{Value}
 use Rattle.base_little.specs.Little.{little, read_little}
 use Rattle.base_little.proofs.Bytes.{little_value}
 use Rattle.base_shared.proofs.Order.{below}
 use Rattle.ivf_file.specs.declared.Record.{Record}
-use Rattle.ivf_file.specs.declared.RecordRead.TheVariants as read
+use Rattle.std.specs.Prelude.{Some, Ok}
 use Rattle.ivf_file.specs.File.{dkif, vp90, stands_at, is_ivf, file_header_of, file_of}
 use Rattle.ivf_file.specs.Record.{data_end, record_at, record_of}
 use Rattle.ivf_file.proofs.Inside.{whole}
@@ -45,9 +44,9 @@ header_first f = ⊎_elim (λ l. rw (take_all 32 f (omega arith))) long (below (
         rw (length-take-le 32 f h, le-leb 32 (length f) h, stands_first f 32 0 dkif (omega arith), stands_first f 32 8 vp90 (omega arith))
         (rw (number 6 2 (omega arith), number 12 2 (omega arith), number 14 2 (omega arith), number 16 4 (omega arith), number 20 4 (omega arith), number 24 4 (omega arith)))
 
-module _ (f : List ℕ) (p : ℕ) (r : Record) (e : record_of f p ≡ read.Record r) where
+module _ (f : List ℕ) (p : ℕ) (r : Record) (e : record_of f p ≡ Ok (Some r)) where
   -- its length is what its 12-byte header alone says
-  pub length_first : read_little (take 12 (drop p f)) 0 4 ≡ Value r.length
+  pub length_first : read_little (take 12 (drop p f)) 0 4 ≡ Ok r.length
   unfolding record_at
   length_first =
       let end : data_end f p ≤ length f = (whole f p r e).0 in

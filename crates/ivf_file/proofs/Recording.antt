@@ -11,12 +11,10 @@ use borrow.Author.Tests.{lt-ltb, le-ltb}
 use Rattle.base_little.specs.Little.{spell_little}
 use Rattle.base_little.proofs.Spelling.{length_little}
 use Rattle.ivf_file.specs.declared.IvfHeader.{IvfHeader}
-use Rattle.ivf_file.specs.declared.FileRead.TheVariants.{Header}
+use Rattle.std.specs.Prelude.{None, Some, Ok, Err}
 use Rattle.ivf_file.specs.declared.Record.{Record}
-use Rattle.ivf_file.specs.declared.RecordRead.{RecordRead}
-use Rattle.ivf_file.specs.declared.RecordRead.TheVariants as read
 use Rattle.ivf_file.specs.File.{file_of}
-use Rattle.ivf_file.specs.Record.{record_of, record_number}
+use Rattle.ivf_file.specs.Record.{RecordRead, record_of, record_number}
 use Rattle.ivf_file.specs.Records.{Records, follow, records_from, records_of}
 use Rattle.ivf_file.specs.Spelling.{FileValues, spell_header, spell_record, record_from, RecordStands}
 use Rattle.ivf_file.specs.Recording.{RecordValues, spell_values, spell_records, RecordsRanged, NoRecord, Recording, Say}
@@ -55,12 +53,12 @@ module _ (f : List ℕ) (bytes : (i : ℕ) → get_or f i 0 < 256) where
       size = rw e (length-append a left)
 
       go : (x : RecordRead) → record_of f (length a) ≡ x → Say f (follow x g) [] left
-      go read.End h = let k : length a ≡ length f = (record_exactly f (length a) read.End).0 h in (refl, sym (le-ltb 0 (length left) (omega (arith, size))))
-      go read.Cut h =
-          let k = ((record_exactly f (length a) read.Cut).0 h).0 in
+      go (Ok None) h = let k : length a ≡ length f = (record_exactly f (length a) (Ok None)).0 h in (refl, sym (le-ltb 0 (length left) (omega (arith, size))))
+      go (Err _) h =
+          let k = ((record_exactly f (length a) (Err (record {}))).0 h).0 in
           let n : length left ≡ 0 → ⊥ = λ z. k (omega (arith, size)) in
           (refl, sym (lt-ltb 0 (length left) (omega arith)))
-      go (read.Record r) h =
+      go (Ok (Some r)) h =
           let s = (record_spelled f bytes (length a) r).0 h in
           let d : left ≡ spell_record r.time s.bytes ++ s.rest = sym (drop-append_seam a left) ∙ ap (drop (length a)) (sym e ∙ s.spelled) ∙ drop_at s.before _ (length a) s.at in
           absurd (none (record { time = r.time; bytes = s.bytes }) s.rest (s.length_fits, s.time_fits) d)
@@ -75,7 +73,7 @@ module _ (f : List ℕ) (bytes : (i : ℕ) → get_or f i 0 < 256) where
       let others = spell_records vs ++ left in
       let l : length (a ++ s) ≡ length a + 12 + length v.bytes = rw (length-append, length_record) (omega arith) in
       let d : f ≡ a ++ (s ++ others) = rw append_assoc at e in
-      let here : record_of f (length a) ≡ read.Record (record_from (length a) v.time v.bytes) = rw d (record_spelt a others v.time v.bytes r.0.0 r.0.1) in
+      let here : record_of f (length a) ≡ Ok (Some (record_from (length a) v.time v.bytes)) = rw d (record_spelt a others v.time v.bytes r.0.0 r.0.1) in
       let said : take (length v.bytes) (drop (length a + 12) f) ≡ v.bytes = rw d (data_spelt a others v) in
       let size : length f ≡ length a + length (s ++ others) = rw d (length-append a (s ++ others)) in
       let behind : Say f (records_from n f (length (a ++ s))) vs left = all_read n (a ++ s) vs left r.1 none (rw append_assoc d) (omega arith) in
@@ -109,7 +107,7 @@ module _ (f : List ℕ) (bytes : (i : ℕ) → get_or f i 0 < 256) where
   unfolding spell_records
   nothing_behind p h = record { vs = []; left = []; ranged = tt; no_more = none_empty; spelled = drop_of_length-le f h }
 
-  none_behind : (p : ℕ) → p ≤ length f → record_of f p ≡ read.Cut → NoRecord (drop p f)
+  none_behind : (p : ℕ) → p ≤ length f → record_of f p ≡ Err (record {}) → NoRecord (drop p f)
   none_behind p h e v rest r d =
       let whole : take p f ++ (spell_values v ++ rest) ≡ f = rw d at (take-append-drop p f) in
       let here = rw (length-take-le p f h, whole) at (record_spelt (take p f) rest v.time v.bytes r.0 r.1) in
@@ -136,9 +134,9 @@ module _ (f : List ℕ) (bytes : (i : ℕ) → get_or f i 0 < 256) where
   step_behind p h others = go (record_of f p) refl
     where
       go : (a : RecordRead) → record_of f p ≡ a → Behind p
-      go read.End e = let k : p ≡ length f = (record_exactly f p read.End).0 e in nothing_behind p (omega arith)
-      go read.Cut e = record { vs = []; left = drop p f; ranged = tt; no_more = none_behind p h e; spelled = refl }
-      go (read.Record r) e =
+      go (Ok None) e = let k : p ≡ length f = (record_exactly f p (Ok None)).0 e in nothing_behind p (omega arith)
+      go (Err _) e = record { vs = []; left = drop p f; ranged = tt; no_more = none_behind p h e; spelled = refl }
+      go (Ok (Some r)) e =
           let w = lies f p r e in
           record_behind p r ((record_spelled f bytes p r).0 e) (others r.next (omega (arith, w.header_first, w.then_data)) w.inside)
 
@@ -147,13 +145,13 @@ module _ (f : List ℕ) (bytes : (i : ℕ) → get_or f i 0 < 256) where
   all_behind (suc n) p h k = step_behind p h (λ q i j. all_behind n q j (omega arith))
 
   -- a file is an IVF file with a header exactly if it is spelled so
-  pub file_spelled : (h : IvfHeader) → (file_of f ≡ Header h) ↔ ((v : FileValues) × (vs : List RecordValues) × (left : List ℕ) × (v.header ≡ h) × Recording f v vs left)
+  pub file_spelled : (h : IvfHeader) → (file_of f ≡ Ok h) ↔ ((v : FileValues) × (vs : List RecordValues) × (left : List ℕ) × (v.header ≡ h) × Recording f v vs left)
   file_spelled h = (forth, back)
     where
-      back : ((v : FileValues) × (vs : List RecordValues) × (left : List ℕ) × (v.header ≡ h) × Recording f v vs left) → file_of f ≡ Header h
+      back : ((v : FileValues) × (vs : List RecordValues) × (left : List ℕ) × (v.header ≡ h) × Recording f v vs left) → file_of f ≡ Ok h
       back (v, vs, left, e, s) = rw (s.spelled, ← e) (header_spelt v s.header_ranged (spell_records vs ++ left))
 
-      forth : file_of f ≡ Header h → (v : FileValues) × (vs : List RecordValues) × (left : List ℕ) × (v.header ≡ h) × Recording f v vs left
+      forth : file_of f ≡ Ok h → (v : FileValues) × (vs : List RecordValues) × (left : List ℕ) × (v.header ≡ h) × Recording f v vs left
       forth e =
           let s = (header_spelled f bytes h).0 e in
           let size : length f ≡ 32 + length s.rest = ap length s.spelled ∙ length-append (spell_header s.values) s.rest ∙ rw (length_header s.values) in

@@ -5,7 +5,7 @@ use Prim.Native.Nat.{ℕ, ◌+◌, ◌^◌, ◌<◌, ◌≤◌}
 use mathlib.Core.Path.{◌≡◌, refl, sym, ap, ◌∙◌}
 use mathlib.Core.Bool.{Bool, true, false}
 use mathlib.Core.Logic.{◌↔◌, inl, inr, ⊎_elim}
-use mathlib.Core.List.{List, [], ◌∷◌, ◌++◌, append_assoc}
+use mathlib.Core.List.{List, ◌++◌, append_assoc}
 use native.Mathlib.Omega.{arith}
 use lib.Dec.{eqb}
 use lib.ListN.{length, get_or, take, drop, length-append, length-drop, take-append-drop}
@@ -14,8 +14,7 @@ use borrow.Author.Tests.{eqb-true, eqb-false}
 use Rattle.base_little.specs.Little.{little, spell_little}
 use Rattle.ivf_file.specs.declared.IvfHeader.{IvfHeader}
 use Rattle.ivf_file.specs.declared.Record.{Record}
-use Rattle.ivf_file.specs.declared.FileRead.TheVariants.{Header}
-use Rattle.ivf_file.specs.declared.RecordRead.TheVariants as read
+use Rattle.std.specs.Prelude.{Some, Ok}
 use Rattle.ivf_file.specs.File.{dkif, vp90, stands_at, file_header_of, file_of}
 use Rattle.ivf_file.specs.Record.{record_at, record_of}
 use Rattle.ivf_file.specs.Table.{Lacks}
@@ -57,11 +56,11 @@ values_spelt v r b =
     rw (version, width, height, rate, scale, count, unused)
 
 -- a header that is spelled is read
-pub header_spelt : (v : FileValues) → FileRanged v → (b : List ℕ) → file_of (spell_header v ++ b) ≡ Header v.header
+pub header_spelt : (v : FileValues) → FileRanged v → (b : List ℕ) → file_of (spell_header v ++ b) ≡ Ok v.header
 unfolding header_values spell_header spell_little little
 header_spelt v r b =
     let e : header_values (spell_header v ++ b) ≡ v = values_spelt v r b in
-    (file_exactly (spell_header v ++ b) (Header v.header)).1
+    (file_exactly (spell_header v ++ b) (Ok v.header)).1
     (⊎_elim (λ l. omega arith) (⊎_elim (λ n. n refl) (⊎_elim (λ n. n refl) (λ n. n refl))), sym (ap (λ (x : FileValues). x.header) e))
 
 -- no other values' spelling begins the file
@@ -69,7 +68,7 @@ pub one_header : (v w : FileValues) → FileRanged v → FileRanged w → (a b :
 one_header v w r q a b e = sym (values_spelt v r a) ∙ ap header_values e ∙ values_spelt w q b
 
 -- a record that is spelled is read
-pub record_spelt : (a b : List ℕ) (time : ℕ) (bytes : List ℕ) → length bytes < 256 ^ 4 → time < 256 ^ 8 → record_of (a ++ (spell_record time bytes ++ b)) (length a) ≡ read.Record (record_from (length a) time bytes)
+pub record_spelt : (a b : List ℕ) (time : ℕ) (bytes : List ℕ) → length bytes < 256 ^ 4 → time < 256 ^ 8 → record_of (a ++ (spell_record time bytes ++ b)) (length a) ≡ Ok (Some (record_from (length a) time bytes))
 unfolding spell_record record_at
 record_spelt a b time bytes h k =
     let f = a ++ (spell_record time bytes ++ b) in
@@ -78,7 +77,7 @@ record_spelt a b time bytes h k =
     let l : length (a ++ first) ≡ length a + 4 = rw (length-append, length_little) in
     let when : little f (length a + 4) 8 ≡ time = rw (append_assoc, append_assoc, ← append_assoc a first, ← l) (little_spelt (a ++ first) (bytes ++ b) 8 time k) in
     let all : length f ≡ length a + (4 + (8 + length bytes) + length b) = rw (length-append, length-append, length-append, length-append, length_little, length_little) in
-    (record_exactly f (length a) (read.Record (record_from (length a) time bytes))).1
+    (record_exactly f (length a) (Ok (Some (record_from (length a) time bytes)))).1
     (⊎_elim (λ x. omega (arith, all, x)) (λ x. omega (arith, all, size, x)), rw (size, when))
 
 -- the other way round, of a file of bytes
@@ -91,10 +90,10 @@ module _ (f : List ℕ) (bytes : (i : ℕ) → get_or f i 0 < 256) where
   header_pieces = simp append_assoc (rw (piece 28 4 32 refl, piece 24 4 28 refl, piece 20 4 24 refl, piece 16 4 20 refl, piece 14 2 16 refl, piece 12 2 14 refl, piece 8 4 12 refl, piece 6 2 8 refl, piece 4 2 6 refl, piece 0 4 4 refl))
 
   -- a header that is read is spelled
-  header_begins : (h : IvfHeader) → file_of f ≡ Header h → FileBegins f h
+  header_begins : (h : IvfHeader) → file_of f ≡ Ok h → FileBegins f h
   unfolding header_values file_header_of spell_header
   header_begins h e =
-      let k = (file_exactly f (Header h)).0 e in
+      let k = (file_exactly f (Ok h)).0 e in
       let n : length f < 32 → ⊥ = λ l. k.0 (inl l) in
       let long : 32 ≤ length f = omega arith in
       let first : take 4 f ≡ dkif = stood f 0 dkif (omega arith) (λ l. k.0 (inr (inl l))) in
@@ -131,14 +130,14 @@ module _ (f : List ℕ) (bytes : (i : ℕ) → get_or f i 0 < 256) where
       }
 
   -- a file's header is read exactly if the file begins with its spelling
-  pub header_spelled : (h : IvfHeader) → (file_of f ≡ Header h) ↔ FileBegins f h
-  header_spelled h = (header_begins h, λ s. ap file_of s.spelled ∙ header_spelt s.values s.in_range s.rest ∙ ap Header s.same)
+  pub header_spelled : (h : IvfHeader) → (file_of f ≡ Ok h) ↔ FileBegins f h
+  header_spelled h = (header_begins h, λ s. ap file_of s.spelled ∙ header_spelt s.values s.in_range s.rest ∙ ap Ok s.same)
 
   -- a record that is read is spelled
-  record_stands : (p : ℕ) (r : Record) → record_of f p ≡ read.Record r → RecordStands f p r
+  record_stands : (p : ℕ) (r : Record) → record_of f p ≡ Ok (Some r) → RecordStands f p r
   unfolding spell_record record_at
   record_stands p r e =
-      let k = (record_exactly f p (read.Record r)).0 e in
+      let k = (record_exactly f p (Ok (Some r))).0 e in
       let n : length f < p + 12 + little f p 4 → ⊥ = λ l. k.0 (inr l) in
       let end : p + 12 + little f p 4 ≤ length f = omega arith in
       let bs = take (little f p 4) (drop (p + 12) f) in
@@ -158,11 +157,11 @@ module _ (f : List ℕ) (bytes : (i : ℕ) → get_or f i 0 < 256) where
       })
 
   -- a record is read at a place exactly if its spelling stands there
-  pub record_spelled : (p : ℕ) (r : Record) → (record_of f p ≡ read.Record r) ↔ RecordStands f p r
+  pub record_spelled : (p : ℕ) (r : Record) → (record_of f p ≡ Ok (Some r)) ↔ RecordStands f p r
   record_spelled p r = (record_stands p r, back)
     where
-      back : RecordStands f p r → record_of f p ≡ read.Record r
+      back : RecordStands f p r → record_of f p ≡ Ok (Some r)
       back s =
-          let k : record_of f (length s.before) ≡ read.Record (record_from (length s.before) r.time s.bytes) =
+          let k : record_of f (length s.before) ≡ Ok (Some (record_from (length s.before) r.time s.bytes)) =
           rw s.spelled (record_spelt s.before s.rest r.time s.bytes s.length_fits s.time_fits) in
-          (rw s.at at k) ∙ sym (ap read.Record s.same)
+          (rw s.at at k) ∙ sym (ap (λ (x : Record). Ok (Some x)) s.same)

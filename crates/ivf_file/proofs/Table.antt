@@ -9,12 +9,11 @@ use native.Mathlib.Omega.{arith}
 use lib.Dec.{eqb, ltb, leb}
 use lib.ListN.{length}
 use borrow.Author.Tests.{eqb-true, eqb-false, ltb-true, ltb-false, leb-true, leb-false}
-use Rattle.ivf_file.specs.declared.FileRead.{FileRead}
-use Rattle.ivf_file.specs.declared.FileRead.TheVariants.{Header, Refused}
-use Rattle.ivf_file.specs.declared.RecordRead.{RecordRead}
-use Rattle.ivf_file.specs.declared.RecordRead.TheVariants as read
+use Rattle.ivf_file.specs.declared.IvfHeader.{IvfHeader}
+use Rattle.ivf_file.specs.declared.NotIvf.{NotIvf}
+use Rattle.std.specs.Prelude.{None, Some, Result, Ok, Err}
 use Rattle.ivf_file.specs.File.{dkif, vp90, stands_at, header_size, file_header_of, file_of, file_number}
-use Rattle.ivf_file.specs.Record.{data_end, record_of, record_number}
+use Rattle.ivf_file.specs.Record.{RecordRead, data_end, record_of, record_number}
 use Rattle.ivf_file.specs.Table.{Lacks, BadFile, FileWhen, CutShort, RecordWhen}
 use Rattle.ivf_file.proofs.Stands.{stands_part, part_stands}
 use Rattle.ivf_file.proofs.Cases.{too_short, no_dkif, other_size, no_vp90, is_header, at_end, cut, whole}
@@ -48,28 +47,28 @@ module _ (f : List ℕ) where
           (⊎_elim (λ s. omega (arith, s)) (⊎_elim (λ n. n (stands_part f 0 dkif (omega arith) e)) (⊎_elim (λ n. n (eqb-true _ _ k)) (λ n. n (stands_part f 8 vp90 (omega arith) v)))), refl)
 
   -- an answer is given exactly when the table says so
-  pub file_exactly : (a : FileRead) → (file_of f ≡ a) ↔ FileWhen a f
+  pub file_exactly : (a : Result IvfHeader NotIvf) → (file_of f ≡ a) ↔ FileWhen a f
   file_exactly a = (λ e. rw e at file_answered, λ w. agree (file_of f) a file_answered w)
     where
-      agree : (a b : FileRead) → FileWhen a f → FileWhen b f → a ≡ b
-      agree Refused Refused h k = refl
-      agree Refused (Header y) h k = absurd (k.0 h)
-      agree (Header x) Refused h k = absurd (h.0 k)
-      agree (Header x) (Header y) h k = rw (h.1, k.1)
+      agree : (a b : Result IvfHeader NotIvf) → FileWhen a f → FileWhen b f → a ≡ b
+      agree (Err _) (Err _) h k = refl
+      agree (Err _) (Ok y) h k = absurd (k.0 h)
+      agree (Ok x) (Err _) h k = absurd (h.0 k)
+      agree (Ok x) (Ok y) h k = rw (h.1, k.1)
 
   pub number_7 : (file_number (file_of f) ≡ 7) ↔ BadFile f
-  number_7 = (says (file_of f) file_answered, λ h. rw ((file_exactly Refused).1 h))
+  number_7 = (says (file_of f) file_answered, λ h. rw ((file_exactly (Err (record {}))).1 h))
     where
-      says : (a : FileRead) → FileWhen a f → file_number a ≡ 7 → BadFile f
-      says Refused h e = h
-      says (Header x) h e = absurd (omega arith)
+      says : (a : Result IvfHeader NotIvf) → FileWhen a f → file_number a ≡ 7 → BadFile f
+      says (Err _) h e = h
+      says (Ok x) h e = absurd (omega arith)
 
   pub file_number_0 : (file_number (file_of f) ≡ 0) ↔ (BadFile f → ⊥)
-  file_number_0 = (says (file_of f) file_answered, λ h. rw ((file_exactly (Header (file_header_of f))).1 (h, refl)))
+  file_number_0 = (says (file_of f) file_answered, λ h. rw ((file_exactly (Ok (file_header_of f))).1 (h, refl)))
     where
-      says : (a : FileRead) → FileWhen a f → file_number a ≡ 0 → BadFile f → ⊥
-      says Refused h e = absurd (omega arith)
-      says (Header x) h e = h.0
+      says : (a : Result IvfHeader NotIvf) → FileWhen a f → file_number a ≡ 0 → BadFile f → ⊥
+      says (Err _) h e = absurd (omega arith)
+      says (Ok x) h e = h.0
 
 module _ (f : List ℕ) (p : ℕ) where
   record_answered : RecordWhen (record_of f p) f p
@@ -91,41 +90,41 @@ module _ (f : List ℕ) (p : ℕ) where
       none e h = absurd (h (inl (omega arith)))
 
       agree : (a b : RecordRead) → RecordWhen a f p → RecordWhen b f p → a ≡ b
-      agree read.End read.End h k = refl
-      agree read.End read.Cut h k = absurd (k.0 h)
-      agree read.End (read.Record y) h k = none h k.0
-      agree read.Cut read.End h k = absurd (h.0 k)
-      agree read.Cut read.Cut h k = refl
-      agree read.Cut (read.Record y) h k = absurd (k.0 h.1)
-      agree (read.Record x) read.End h k = none k h.0
-      agree (read.Record x) read.Cut h k = absurd (h.0 k.1)
-      agree (read.Record x) (read.Record y) h k = rw (h.1, k.1)
+      agree (Ok None) (Ok None) h k = refl
+      agree (Ok None) (Err _) h k = absurd (k.0 h)
+      agree (Ok None) (Ok (Some y)) h k = none h k.0
+      agree (Err _) (Ok None) h k = absurd (h.0 k)
+      agree (Err _) (Err _) h k = refl
+      agree (Err _) (Ok (Some y)) h k = absurd (k.0 h.1)
+      agree (Ok (Some x)) (Ok None) h k = none k h.0
+      agree (Ok (Some x)) (Err _) h k = absurd (h.0 k.1)
+      agree (Ok (Some x)) (Ok (Some y)) h k = rw (h.1, k.1)
 
   pub number_8 : (record_number (record_of f p) ≡ 8) ↔ ((p ≡ length f → ⊥) × CutShort f p)
-  number_8 = (says (record_of f p) record_answered, λ h. rw ((record_exactly read.Cut).1 h))
+  number_8 = (says (record_of f p) record_answered, λ h. rw ((record_exactly (Err (record {}))).1 h))
     where
       says : (a : RecordRead) → RecordWhen a f p → record_number a ≡ 8 → (p ≡ length f → ⊥) × CutShort f p
-      says read.End h e = absurd (omega arith)
-      says read.Cut h e = h
-      says (read.Record x) h e = absurd (omega arith)
+      says (Ok None) h e = absurd (omega arith)
+      says (Err _) h e = h
+      says (Ok (Some x)) h e = absurd (omega arith)
 
-  pub record_number_0 : (record_number (record_of f p) ≡ 0) ↔ (RecordWhen read.Cut f p → ⊥)
+  pub record_number_0 : (record_number (record_of f p) ≡ 0) ↔ (RecordWhen (Err (record {})) f p → ⊥)
   record_number_0 = (says (record_of f p) record_answered, back (record_of f p) record_answered)
     where
-      says : (a : RecordRead) → RecordWhen a f p → record_number a ≡ 0 → RecordWhen read.Cut f p → ⊥
-      says read.End h e k = k.0 h
-      says read.Cut h e k = absurd (omega arith)
-      says (read.Record x) h e k = h.0 k.1
+      says : (a : RecordRead) → RecordWhen a f p → record_number a ≡ 0 → RecordWhen (Err (record {})) f p → ⊥
+      says (Ok None) h e k = k.0 h
+      says (Err _) h e k = absurd (omega arith)
+      says (Ok (Some x)) h e k = h.0 k.1
 
-      back : (a : RecordRead) → RecordWhen a f p → (RecordWhen read.Cut f p → ⊥) → record_number a ≡ 0
-      back read.End h k = refl
-      back read.Cut h k = absurd (k h)
-      back (read.Record x) h k = refl
+      back : (a : RecordRead) → RecordWhen a f p → (RecordWhen (Err (record {})) f p → ⊥) → record_number a ≡ 0
+      back (Ok None) h k = refl
+      back (Err _) h k = absurd (k h)
+      back (Ok (Some x)) h k = refl
 
   -- a place past the file's end gives 8
-  pub past_the_end : length f < p → record_of f p ≡ read.Cut
-  past_the_end h = (record_exactly read.Cut).1 (λ e. omega arith, inl (omega arith))
+  pub past_the_end : length f < p → record_of f p ≡ Err (record {})
+  past_the_end h = (record_exactly (Err (record {}))).1 (λ e. omega arith, inl (omega arith))
 
   -- the file's end is no refusal
-  pub ends : p ≡ length f → record_of f p ≡ read.End
-  ends = (record_exactly read.End).1
+  pub ends : p ≡ length f → record_of f p ≡ Ok None
+  ends = (record_exactly (Ok None)).1

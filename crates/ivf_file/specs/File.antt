@@ -1,11 +1,10 @@
 -- The header of an IVF file: docs/RULES.md, "IVF", and number 7.
 -- Assumes nothing.
-use Rattle.std.specs.Prelude.{ℕ, ◌+◌, Bool, true, ◌&&◌, List, [], ◌∷◌, eqb, leb, length, get_or}
+use Rattle.std.specs.Prelude.{ℕ, ◌+◌, Bool, true, ◌&&◌, Result, Ok, Err, List, [], ◌∷◌, eqb, leb, length, get_or}
 use Rattle.base_shared.specs.Choice.{pick}
 use Rattle.base_little.specs.Little.{little}
 use Rattle.ivf_file.specs.declared.IvfHeader.{IvfHeader}
-use Rattle.ivf_file.specs.declared.FileRead.{FileRead}
-use Rattle.ivf_file.specs.declared.FileRead.TheVariants.{Header, Refused}
+use Rattle.ivf_file.specs.declared.NotIvf.{NotIvf}
 
 -- the four bytes DKIF, and VP90
 abbrev pub dkif : List ℕ
@@ -32,13 +31,13 @@ is_ivf f = leb header_bytes (length f) && (stands_at f 0 dkif && (eqb (header_si
 unfoldable pub file_header_of : List ℕ → IvfHeader
 file_header_of f = record { width = little f 12 2; height = little f 14 2; rate = little f 16 4; scale = little f 20 4; count = little f 24 4 }
 
-unfoldable pub file_of : List ℕ → FileRead
-file_of f = pick (is_ivf f) (Header (file_header_of f)) Refused
+unfoldable pub file_of : List ℕ → Result IvfHeader NotIvf
+file_of f = pick (is_ivf f) (Ok (file_header_of f)) (Err (record {}))
 
 -- docs/RULES.md's number, 0 for a header
-abbrev pub file_number : FileRead → ℕ
-file_number (Header h) = 0
-file_number Refused = 7
+abbrev pub file_number : Result IvfHeader NotIvf → ℕ
+file_number (Ok h) = 0
+file_number (Err e) = 7
 
 -- the frame number that comes with docs/RULES.md's 7, 8 and 9
 abbrev pub file_frame : ℕ

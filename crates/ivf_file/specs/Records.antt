@@ -1,12 +1,10 @@
 -- The records of a whole file, in order: docs/RULES.md, "IVF". A file may end right after its header or a record;
 -- where it ends elsewhere its last record is cut short, number 8.
 -- Assumes nothing.
-use Rattle.std.specs.Prelude.{ℕ, zero, suc, Bool, true, false, List, [], ◌∷◌, length, take, drop}
+use Rattle.std.specs.Prelude.{ℕ, zero, suc, Bool, true, false, None, Some, Ok, Err, List, [], ◌∷◌, length, take, drop}
 use Rattle.ivf_file.specs.declared.Record.{Record}
-use Rattle.ivf_file.specs.declared.RecordRead.{RecordRead}
-use Rattle.ivf_file.specs.declared.RecordRead.TheVariants as read
 use Rattle.ivf_file.specs.File.{header_bytes}
-use Rattle.ivf_file.specs.Record.{record_of}
+use Rattle.ivf_file.specs.Record.{RecordRead, record_of}
 
 -- those that are whole, and whether another is cut short
 pub record Records : Type 0 where
@@ -21,9 +19,9 @@ before r rs = record { whole = r ∷ rs.whole; cut = rs.cut }
 
 -- what is read at a place, and those from the place after it on
 abbrev pub follow : RecordRead → (ℕ → Records) → Records
-follow read.End others = none_but false
-follow read.Cut others = none_but true
-follow (read.Record r) others = before r (others r.next)
+follow (Ok None) others = none_but false
+follow (Err e) others = none_but true
+follow (Ok (Some r)) others = before r (others r.next)
 
 -- from p on, at most n
 unfoldable pub records_from : ℕ → List ℕ → ℕ → Records

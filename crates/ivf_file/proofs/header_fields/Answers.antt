@@ -1,4 +1,3 @@
-use borrow.Author.Rules.{rules}
 use Rattle.ivf_file.specs.File.{file_header_of}
 use Rattle.ivf_file.proofs.header_fields.Goals as goal
 

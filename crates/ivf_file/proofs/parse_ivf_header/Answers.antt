@@ -1,4 +1,3 @@
-use borrow.Author.Rules.{rules}
 use Rattle.ivf_file.proofs.Cases.{too_short, no_dkif, other_size, no_vp90, is_header}
 use Rattle.ivf_file.proofs.parse_ivf_header.Goals as goal
 

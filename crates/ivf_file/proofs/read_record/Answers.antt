@@ -1,4 +1,3 @@
-use borrow.Author.Rules.{rules}
 use Rattle.ivf_file.proofs.Cases.{at_end, past_end, cut_header, cut_data, is_record}
 use Rattle.ivf_file.proofs.read_record.Goals as goal
 
