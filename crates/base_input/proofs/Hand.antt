@@ -10,19 +10,13 @@ use lib.ListN.{length, take, drop, length-take, length-drop, take-append-drop, d
 use lib.Seq.{drop-drop, take-length, take-take, take-append_seam}
 use borrow.Author.Tests.{leb-true, leb-false}
 use Rattle.base_shared.proofs.Parts.{drop_take}
-use Rattle.base_buffer.specs.Front.{held, front_of, Moved}
-use Rattle.base_stream.specs.declared.Filled.{Filled}
-use Rattle.base_stream.specs.declared.Filled.TheVariants.{Full, Ended, Failed}
-use Rattle.base_stream.specs.Stream.{FilledFrom}
+use Rattle.base_buffer.specs.Front.{held, front_of}
+use Rattle.std.specs.Prelude.{Ok, Err}
+use Rattle.base_stream.specs.declared.Unfilled.TheVariants.{Ended, Failed}
+use Rattle.base_stream.specs.Stream.{Filled, FilledFrom}
+use Rattle.base_input.specs.declared.Behind.TheVariants.{End, Failure}
 use Rattle.base_input.specs.declared.Input.{Input}
-use Rattle.base_input.specs.Input.{used_of, hand_of, filled_by, FilledBehind, Refilled}
-
-pub not_refilled : (buf : List ℕ) (i : Input) → i.failed ≡ true → Refilled buf i i buf
-not_refilled buf i e = rw e (refl, refl)
-
-pub refilled : (before mid after : List ℕ) (i r : Input) (n : ℕ) (f : Filled) → i.failed ≡ false → Moved before i.start i.end n mid → FilledFrom mid n f after
-    → length after ≡ length before → r ≡ filled_by (length after) f → Refilled before i r after
-refilled before mid after i r n f e m reads same result = rw e (record { filled = f; reads = rw (m.counted, m.bytes) at reads; result = rw same at result })
+use Rattle.base_input.specs.Input.{used_of, hand_of, filled_by, FilledBehind}
 
 -- what is used is gone from its front
 pub used_hand : (buf : List ℕ) (i : Input) (n : ℕ) → hand_of buf (used_of i n) ≡ drop n (hand_of buf i)
@@ -66,14 +60,14 @@ module _ (before : List ℕ) (i : Input) where
       to end le kept = (drop count (take end after), rw (← at_front, ← kept, ← take-take count end after le) (sym (take-append-drop count (take end after))))
 
       go : (f : Filled) → FilledFrom (front_of before i.start i.end) count f after → r ≡ filled_by (length before) f → (block : List ℕ) × (hand_of after r ≡ hand ++ block)
-      go Full reads e = rw e (to (length before) (omega arith) reads.kept)
-      go (Ended end) reads e = rw e (to end reads.ends.0 reads.kept)
-      go (Failed end) reads e = rw e (to end reads.ends.0 reads.kept)
+      go (Ok _) reads e = rw e (to (length before) (omega arith) reads.kept)
+      go (Err (Ended end)) reads e = rw e (to end reads.ends.0 reads.kept)
+      go (Err (Failed end why)) reads e = rw e (to end reads.ends.0 reads.kept)
 
   -- the input's end is told, and a failed read is none
   module _ {r : Input} {after : List ℕ} (h : FilledBehind before i r after) (end : ℕ) where
-    pub end_told : h.filled ≡ Ended end → (r.ended ≡ true) × (r.failed ≡ false)
-    end_told e = rw (h.result, e) (refl, refl)
+    pub end_told : h.filled ≡ Err (Ended end) → r.behind ≡ End
+    end_told e = rw (h.result, e) refl
 
-    pub failure_told : h.filled ≡ Failed end → (r.ended ≡ false) × (r.failed ≡ true)
-    failure_told e = rw (h.result, e) (refl, refl)
+    pub failure_told : (why : _) → h.filled ≡ Err (Failed end why) → r.behind ≡ Failure
+    failure_told why e = rw (h.result, e) refl

@@ -2,33 +2,35 @@
 #![tactic(auto)]
 
 ghost use Rattle.std.specs.Prelude.{◌+◌, min, ◌≡◌};
-ghost use Rattle.base_input.specs.Input.{fresh_input, used_of, hand_of, filled_to, filled_by, Refilled};
+ghost use Rattle.base_input.specs.Input.{fresh_input, used_of, hand_of, filled_by, Refilled};
 
 use base_parts::{front, rest};
-use base_stream::{Ending, Filled, Streams};
+use base_stream::{Ending, Streams, Unfilled};
+
+// What follows the bytes that are read.
+#[derive(Clone, Copy, PartialEq, Eq)]
+pub enum Behind {
+    // Perhaps more.
+    More,
+    // Nothing.
+    End,
+    // A read failed there, which is said already.
+    Failure,
+}
 
 #[derive(Clone, Copy)]
 pub struct Input {
-    // It lies from `start` to `end`.
+    // What is read and not used yet lies from `start` to `end`.
     pub start: usize,
     pub end: usize,
-    // Nothing follows it.
-    pub ended: bool,
-    // A read failed behind it, which is said already.
-    pub failed: bool,
+    pub behind: Behind,
 }
 
 // The place n bytes on, which is never past the end.
 fn forward(at: usize, end: usize, n: usize) -> usize
     ensures { result ≡ min (at + n) end }
 {
-    if at > end {
-        return end;
-    }
-    if n > end - at {
-        return end;
-    }
-    at + n
+    at.saturating_add(n).min(end)
 }
 
 impl Input {
@@ -39,8 +41,7 @@ impl Input {
         Input {
             start: 0,
             end: 0,
-            ended: false,
-            failed: false,
+            behind: Behind::More,
         }
     }
 
@@ -51,59 +52,42 @@ impl Input {
         self.start = forward(self.start, self.end, n);
         self
     }
-}
 
-// What is at hand.
-pub fn at_hand(buf: &[u8], input: Input) -> &[u8]
-    ensures { result.now ≡ hand_of buf.now input }
-{
-    rest(front(buf, input.end), input.start)
+    // What is at hand.
+    pub fn at_hand(self, buf: &[u8]) -> &[u8]
+        ensures { result.now ≡ hand_of buf.now self }
+    {
+        rest(front(buf, self.end), self.start)
+    }
+
+    // Moves what is at hand to the buffer's front, and fills the buffer behind it. Once a read failed no more is read.
+    pub fn refill(self, streams: &mut Streams, buf: &mut [u8]) -> Input
+        ensures { Refilled buf.old self result buf.new }
+    {
+        if self.behind == Behind::Failure {
+            return self;
+        }
+        let n = base_buffer::to_front(buf, self.start, self.end);
+        let filled = streams.fill(buf, n);
+        if let Err(Unfilled::Failed(_, why)) = filled {
+            Ending::Unread(why).say(streams);
+        }
+        filled_by(buf.len(), filled)
+    }
 }
 
 // As a buffer of so many bytes was filled.
-fn filled_by(size: usize, filled: Filled) -> Input
+fn filled_by(size: usize, filled: Result<(), Unfilled>) -> Input
     ensures { result ≡ filled_by size filled }
 {
-    match filled {
-        Filled::Full => filled_to(size, false, false),
-        Filled::Ended(end) => filled_to(end, true, false),
-        Filled::Failed(end) => filled_to(end, false, true),
-    }
-}
-
-fn filled_to(end: usize, ended: bool, failed: bool) -> Input
-    ensures { result ≡ filled_to end ended failed }
-{
+    let (end, behind) = match filled {
+        Ok(()) => (size, Behind::More),
+        Err(Unfilled::Ended(end)) => (end, Behind::End),
+        Err(Unfilled::Failed(end, _)) => (end, Behind::Failure),
+    };
     Input {
         start: 0,
         end,
-        ended,
-        failed,
+        behind,
     }
-}
-
-// Says why a read failed, while errno tells.
-fn say_failed(streams: &mut Streams, filled: Filled) {
-    match filled {
-        Filled::Failed(_) => say_unread(streams),
-        _ => {}
-    }
-}
-
-fn say_unread(streams: &mut Streams) {
-    let unread = Ending::Unread;
-    unread.say(streams);
-}
-
-// Moves what is at hand to the buffer's front, and fills the buffer behind it. Once a read failed no more is read.
-pub fn refill(streams: &mut Streams, buf: &mut [u8], input: Input) -> Input
-    ensures { Refilled buf.old input result buf.new }
-{
-    if input.failed {
-        return input;
-    }
-    let n = base_buffer::to_front(buf, input.start, input.end);
-    let filled = base_stream::fill(streams, buf, n);
-    say_failed(streams, filled);
-    filled_by(buf.len(), filled)
 }

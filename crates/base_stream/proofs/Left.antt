@@ -6,14 +6,11 @@ use mathlib.Core.Bool.{Bool, true, false}
 use native.Mathlib.Omega.{arith}
 use lib.Dec.{leb}
 use borrow.Author.Tests.{leb-true, leb-false, le-leb, lt-leb}
-use Rattle.base_stream.specs.Stream.{room_left, WroteFront}
+use Rattle.base_stream.specs.Stream.{room_left}
 
 pub room_inside : (size at n : ℕ) → room_left size at n ≡ true → at ≤ size
 unfolding room_left
 room_inside size at n h = omega (arith, leb-true (at + n) size h)
-
-pub unwritten : (size n : ℕ) → WroteFront size n false
-unwritten size n h = let z : ◌≡◌ {A = ℕ} 0 1 = cc in absurd (omega arith)
 
 pub room_past : (size at n : ℕ) → size < at → false ≡ room_left size at n
 unfolding room_left

@@ -1,38 +1,21 @@
 -- What can be said of a buffer that input is read into: which bytes come, no contract can say.
 -- Assumes nothing.
-use Rattle.std.specs.Prelude.{ℕ, ◌+◌, ◌≤◌, ◌<◌, ◌≡◌, Bool, true, false, List, ◌⊎◌, leb, length, take, drop}
+use Rattle.std.specs.Prelude.{ℕ, ◌+◌, ◌≤◌, ◌<◌, ◌≡◌, Bool, false, List, ◌⊎◌, leb, length, take, drop, Result, Ok, Err}
 use Rattle.base_shared.specs.Choice.{pick}
-use Rattle.base_stream.specs.declared.Filled.{Filled}
-use Rattle.base_stream.specs.declared.Filled.TheVariants.{Full, Ended, Failed}
-use Rattle.base_stream.specs.declared.Room.{Room}
-use Rattle.base_stream.specs.declared.Room.TheVariants.{At}
-use Rattle.base_stream.specs.declared.Room.TheVariants as room
+use Rattle.base_stream.specs.declared.Unfilled.{Unfilled}
+use Rattle.base_stream.specs.declared.Unfilled.TheVariants.{Ended, Failed}
 use Rattle.base_stream.specs.declared.Ending.{Ending}
 use Rattle.base_stream.specs.declared.Ending.TheVariants.{Unwritten}
-use Rattle.base_stream.specs.declared.Moved.{Moved}
-use Rattle.base_stream.specs.declared.Moved.TheVariants.{Bytes, Nothing, Broken}
 
--- how many bytes one call moved
-abbrev pub bytes : Moved → ℕ
-bytes (Bytes n) = n
-bytes Nothing = 0
-bytes Broken = 0
-
--- one read: the bytes before the place stay, and what comes lies within the buffer
-pub record ReadOn (before : List ℕ) (at : ℕ) (r : Moved) (after : List ℕ) : Type 0 where
-  pub kept : take at after ≡ take at before
-  pub within : at + bytes r ≤ length before
-
-abbrev pub end_of : Moved → ℕ → Filled
-end_of (Bytes n) at = Full
-end_of Nothing at = Ended at
-end_of Broken at = Failed at
+-- whether a buffer was filled
+abbrev pub Filled : Type 0
+Filled = Result Unit Unfilled
 
 -- the input's end lies from the place on and before the buffer's end; a failed read may be met at that end too
 abbrev pub EndsWithin : ℕ → ℕ → Filled → Type 0
-EndsWithin at size Full = Unit
-EndsWithin at size (Ended n) = (at ≤ n) × (n < size)
-EndsWithin at size (Failed n) = (at ≤ n) × (n ≤ size)
+EndsWithin at size (Ok _) = Unit
+EndsWithin at size (Err (Ended n)) = (at ≤ n) × (n < size)
+EndsWithin at size (Err (Failed n why)) = (at ≤ n) × (n ≤ size)
 
 -- the bytes before the place stay
 pub record FilledFrom (before : List ℕ) (at : ℕ) (r : Filled) (after : List ℕ) : Type 0 where
@@ -44,21 +27,26 @@ pub record FilledFrom (before : List ℕ) (at : ℕ) (r : Filled) (after : List 
 pub record FrontFilled (before : List ℕ) (n : ℕ) (r : Filled) (after : List ℕ) : Type 0 where
   pub kept : drop n after ≡ drop n before
   pub ends : EndsWithin 0 n r
-  pub narrow : length before < n → (r ≡ Ended 0) × (after ≡ before)
+  pub narrow : length before < n → (r ≡ Err (Ended 0)) × (after ≡ before)
 
 -- n bytes are left from `at` on
 unfoldable pub room_left : ℕ → ℕ → ℕ → Bool
 room_left size at n = leb (at + n) size
 
 -- a buffer's first n bytes can't be written where it has fewer
-abbrev pub WroteFront : ℕ → ℕ → Bool → Type 0
-WroteFront size n r = r ≡ true → n ≤ size
+abbrev pub WroteFront : {E : Type 0} → ℕ → ℕ → Result Unit E → Type 0
+WroteFront size n (Ok _) = n ≤ size
+WroteFront size n (Err why) = Unit
 
 -- the text goes on where it is, or at 0 once it is written; only a write can fail
-abbrev pub RoomFor : ℕ → ℕ → ℕ → Room → Type 0
-RoomFor size at n (At p) = (at ≤ size) × (p ≡ pick (room_left size at n) at 0)
-RoomFor size at n room.Failed = room_left size at n ≡ false
+abbrev pub RoomFor : {E : Type 0} → ℕ → ℕ → ℕ → Result ℕ E → Type 0
+RoomFor size at n (Ok p) = (at ≤ size) × (p ≡ pick (room_left size at n) at 0)
+RoomFor size at n (Err why) = room_left size at n ≡ false
+
+abbrev pub IsUnwritten : Ending → Type 0
+IsUnwritten (Unwritten why) = Unit
+IsUnwritten _ = ⊥
 
 -- as it was to be, once the bytes before `at` are written, or because a write failed
 abbrev pub EndsAs : ℕ → ℕ → Ending → Ending → Type 0
-EndsAs size at e r = ((r ≡ e) × (at ≤ size)) ⊎ (r ≡ Unwritten)
+EndsAs size at e r = ((r ≡ e) × (at ≤ size)) ⊎ IsUnwritten r
