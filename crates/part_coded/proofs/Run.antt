@@ -42,18 +42,18 @@ one_left n k h = omega arith
 
 module _ {x : String} {b n : ℕ} {s : List ℕ} {p₀ k p : ℕ} (l : Counted x b n s p₀ k p) where
   module _ (h : k < n) (r : Result (ℕ × Cursor) BitsError) (e : r ≡ read_bits s p 1) {d : _} (f : r ≡ result_from_control_flow d) where
-    pub counted_more : (v : ℕ × Cursor) → d ≡ Continue v → v.0 ≡ b → Counted x b n s p₀ (k + 1) v.1.at
+    pub counted_more : (a : ℕ) (c : Cursor) → d ≡ Continue (a, c) → a ≡ b → Counted x b n s p₀ (k + 1) c.at
     unfolding read_run
-    counted_more v t vb = record {
+    counted_more a c t ab = record {
       within = omega arith;
-      same = (rw (one_left n k h, value_read (item x k) s p 1 e (rw t at f) tt, eq-eqb v.0 b vb) at l.same) ∙ up k (read_run x b (k + 1) (n - (k + 1)) s v.1.at);
+      same = (rw (one_left n k h, value_read (item x k) s p 1 e (rw t at f) tt, eq-eqb a b ab) at l.same) ∙ up k (read_run x b (k + 1) (n - (k + 1)) s c.at);
     }
 
-    pub counted_end : (v : ℕ × Cursor) → d ≡ Continue v → (v.0 ≡ b → ⊥) → Ok (k, v.1) ≡ over (λ a. a) (read_run x b 0 n s p₀)
+    pub counted_end : (a : ℕ) (c : Cursor) → d ≡ Continue (a, c) → (a ≡ b → ⊥) → Ok (k, c) ≡ over (λ a. a) (read_run x b 0 n s p₀)
     unfolding read_run
-    counted_end v t nb =
+    counted_end a c t nb =
         let z : k + 0 ≡ k = omega arith in
-        sym (rw (one_left n k h, value_read (item x k) s p 1 e (rw t at f) tt, ne_eqb v.0 b nb, z) at l.same)
+        sym (rw (one_left n k h, value_read (item x k) s p 1 e (rw t at f) tt, ne_eqb a b nb, z) at l.same)
 
     pub counted_short : {u : _} (y : Result (ℕ × Cursor) Refusal) → d ≡ Break u → IsErrAnd y (λ w. w ≡ PastEnd) → y ≡ over (λ a. a) (read_run x b 0 n s p₀)
     unfolding read_run
