@@ -17,14 +17,4 @@ default_filter =
 
 -- the code's answer of `reset`: reference deltas 1, 0, -1, -1 and mode deltas 0; the rest is kept
 abbrev pub reset_filter : LoopFilterParams → LoopFilterParams
-reset_filter p =
-    record {
-      level = p.level;
-      sharpness = p.sharpness;
-      delta_enabled = p.delta_enabled;
-      delta_update = p.delta_update;
-      update_ref_delta = p.update_ref_delta;
-      ref_deltas = pos 1 ∷ pos 0 ∷ negsuc 0 ∷ negsuc 0 ∷ [];
-      update_mode_delta = p.update_mode_delta;
-      mode_deltas = replicate 2 (pos 0);
-    }
+reset_filter p = record p { ref_deltas = pos 1 ∷ pos 0 ∷ negsuc 0 ∷ negsuc 0 ∷ []; mode_deltas = replicate 2 (pos 0) }

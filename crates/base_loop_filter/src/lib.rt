@@ -4,7 +4,7 @@
 ghost use Rattle.std.specs.Prelude.{◌≡◌};
 ghost use Rattle.base_loop_filter.specs.LoopFilterParams.{default_filter, reset_filter};
 
-#[derive(Clone, Copy)]
+#[derive(Clone, Copy, Debug, PartialEq, Eq)]
 pub struct LoopFilterParams {
     pub level: u8,
     pub sharpness: u8,
@@ -34,12 +34,6 @@ impl LoopFilterParams {
         mode_deltas: [0; Self::MAX_MODE_LF_DELTAS],
     };
 
-    pub fn default() -> Self
-        ensures { result ≡ default_filter }
-    {
-        Self::DEFAULT
-    }
-
     // What a frame that owes nothing to earlier frames starts from.
     pub fn reset(mut self) -> Self
         ensures { result ≡ reset_filter self }
@@ -47,5 +41,13 @@ impl LoopFilterParams {
         self.ref_deltas = [1, 0, -1, -1];
         self.mode_deltas = [0; Self::MAX_MODE_LF_DELTAS];
         self
+    }
+}
+
+impl Default for LoopFilterParams {
+    ghost is_default = { λ p. p ≡ default_filter };
+
+    fn default() -> Self {
+        Self::DEFAULT
     }
 }

@@ -4,7 +4,7 @@
 ghost use Rattle.std.specs.Prelude.{◌≡◌};
 ghost use Rattle.base_quantization.specs.QuantizationParams.{default_quantization};
 
-#[derive(Clone, Copy)]
+#[derive(Clone, Copy, Debug, PartialEq, Eq)]
 pub struct QuantizationParams {
     pub base_q_idx: u8,
     pub delta_q_y_dc: i8,
@@ -19,10 +19,12 @@ impl QuantizationParams {
         delta_q_uv_dc: 0,
         delta_q_uv_ac: 0,
     };
+}
 
-    pub fn default() -> Self
-        ensures { result ≡ default_quantization }
-    {
+impl Default for QuantizationParams {
+    ghost is_default = { λ p. p ≡ default_quantization };
+
+    fn default() -> Self {
         Self::DEFAULT
     }
 }

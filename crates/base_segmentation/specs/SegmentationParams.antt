@@ -22,17 +22,7 @@ default_segmentation =
 -- the code's answer of `reset`: features disabled, their data 0, absolute flag false; the rest is kept
 abbrev pub reset_segmentation : SegmentationParams → SegmentationParams
 reset_segmentation p =
-    record {
-      enabled = p.enabled;
-      update_map = p.update_map;
-      tree_probs = p.tree_probs;
-      pred_probs = p.pred_probs;
-      temporal_update = p.temporal_update;
-      update_data = p.update_data;
-      abs_or_delta_update = false;
-      feature_enabled = replicate 32 false;
-      feature_data = replicate 32 (pos 0);
-    }
+    record p { abs_or_delta_update = false; feature_enabled = replicate 32 false; feature_data = replicate 32 (pos 0) }
 
 -- segments: a segment's feature in a row of eight segments by four features; d where there is no such segment
 abbrev pub feature_in : {A : Type 0} → List A → A → ℕ → SegLvl → A

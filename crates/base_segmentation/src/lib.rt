@@ -14,7 +14,7 @@ ghost use Rattle.base_segmentation.specs.SegmentationParams.{
 use base_enums::SegLvl;
 
 // The features of segment s stand at s * 4 to s * 4 + 3 of the last two rows.
-#[derive(Clone, Copy)]
+#[derive(Clone, Copy, Debug, PartialEq, Eq)]
 pub struct SegmentationParams {
     pub enabled: bool,
     pub update_map: bool,
@@ -50,12 +50,6 @@ impl SegmentationParams {
         feature_data: [0; Self::FEATURES],
     };
 
-    pub fn default() -> Self
-        ensures { result ≡ default_segmentation }
-    {
-        Self::DEFAULT
-    }
-
     // What a frame that owes nothing to earlier frames starts from.
     pub fn reset(mut self) -> Self
         ensures { result ≡ reset_segmentation self }
@@ -66,41 +60,42 @@ impl SegmentationParams {
         self
     }
 
-    pub fn is_feature_enabled(self, segment_id: u8, feature: SegLvl) -> bool
-        ensures { result ≡ feature_enabled self segment_id feature }
+    pub fn is_feature_enabled(&self, segment_id: u8, feature: SegLvl) -> bool
+        ensures { result ≡ feature_enabled self.now segment_id feature }
     {
-        if (segment_id as usize) < Self::MAX_SEGMENTS {
-            let i = place(segment_id, feature);
-            self.feature_enabled[i]
-        } else {
-            false
-        }
+        self.feature_enabled
+            .get(place(segment_id, feature))
+            .copied()
+            .unwrap_or(false)
     }
 
-    pub fn is_feature_active(self, segment_id: u8, feature: SegLvl) -> bool
-        ensures { result ≡ feature_active self segment_id feature }
+    pub fn is_feature_active(&self, segment_id: u8, feature: SegLvl) -> bool
+        ensures { result ≡ feature_active self.now segment_id feature }
     {
-        if self.enabled {
-            self.is_feature_enabled(segment_id, feature)
-        } else {
-            false
-        }
+        self.enabled && self.is_feature_enabled(segment_id, feature)
     }
 
-    pub fn feature_data(self, segment_id: u8, feature: SegLvl) -> i16
-        ensures { result ≡ feature_data self segment_id feature }
+    // 0 where there is no such segment, past the end of the row.
+    pub fn feature_data(&self, segment_id: u8, feature: SegLvl) -> i16
+        ensures { result ≡ feature_data self.now segment_id feature }
     {
-        if (segment_id as usize) < Self::MAX_SEGMENTS {
-            let i = place(segment_id, feature);
-            self.feature_data[i]
-        } else {
-            0
-        }
+        self.feature_data
+            .get(place(segment_id, feature))
+            .copied()
+            .unwrap_or(0)
+    }
+}
+
+impl Default for SegmentationParams {
+    ghost is_default = { λ p. p ≡ default_segmentation };
+
+    fn default() -> Self {
+        Self::DEFAULT
     }
 }
 
 fn place(segment_id: u8, feature: SegLvl) -> usize
     ensures { result ≡ segment_id * 4 + seg_lvl_number feature }
 {
-    segment_id as usize * SegmentationParams::SEG_LVL_MAX + feature.number() as usize
+    segment_id as usize * SegmentationParams::SEG_LVL_MAX + feature as usize
 }

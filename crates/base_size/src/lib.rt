@@ -4,7 +4,7 @@
 ghost use Rattle.std.specs.Prelude.{◌≡◌};
 ghost use Rattle.base_size.specs.FrameSize.{no_size};
 
-#[derive(Clone, Copy)]
+#[derive(Clone, Copy, Debug, PartialEq, Eq)]
 pub struct FrameSize {
     pub width: u32,
     pub height: u32,
@@ -13,10 +13,12 @@ pub struct FrameSize {
 impl FrameSize {
     // How many sizes a reader remembers: VP9's NUM_REF_FRAMES.
     pub const REMEMBERED: usize = 8;
+}
 
-    pub fn none() -> Self
-        ensures { result ≡ no_size }
-    {
+impl Default for FrameSize {
+    ghost is_default = { λ s. s ≡ no_size };
+
+    fn default() -> Self {
         Self {
             width: 0,
             height: 0,

@@ -22,10 +22,8 @@ pub fn refresh(
     ensures { result ≡ refreshed flags new slots }
 {
     let mut out = slots;
-    for i in 0..8usize {
-        let old = out[i];
-        let kept = slot_after(flags, i, new, old);
-        out[i] = kept;
+    for i in 0..FrameSize::REMEMBERED {
+        out[i] = slot_after(flags, i, new, out[i]);
     }
     out
 }

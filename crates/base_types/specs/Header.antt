@@ -1,5 +1,5 @@
 -- Header: the default, and the one that only names a slot to show.
-use Rattle.std.specs.Prelude.{ℕ, Bool, true, false, replicate}
+use Rattle.std.specs.Prelude.{ℕ, true, false, replicate}
 use Rattle.base_loop_filter.specs.LoopFilterParams.{default_filter}
 use Rattle.base_quantization.specs.QuantizationParams.{default_quantization}
 use Rattle.base_segmentation.specs.SegmentationParams.{default_segmentation}
@@ -13,17 +13,17 @@ use Rattle.base_enums.specs.declared.Profile.TheVariants.{Profile0}
 use Rattle.base_types.specs.declared.header.Header.{Header}
 
 -- depth 8 and the eight-tap filter, and else 0 or false
-abbrev pub bare_header : Profile → Bool → ℕ → Header
-bare_header profile shown slot =
+abbrev pub default_header : Header
+default_header =
     record {
-      profile = profile;
+      profile = Profile0;
       bit_depth = Depth8;
       subsampling_x = false;
       subsampling_y = false;
       color_space = Unknown;
       color_range = StudioSwing;
-      show_existing_frame = shown;
-      frame_to_show_map_idx = slot;
+      show_existing_frame = false;
+      frame_to_show_map_idx = 0;
       frame_type = KeyFrame;
       show_frame = false;
       error_resilient_mode = false;
@@ -52,8 +52,6 @@ bare_header profile shown slot =
       uncompressed_header_size_in_bytes = 0;
     }
 
-abbrev pub default_header : Header
-default_header = bare_header Profile0 false 0
-
 abbrev pub showing_header : Profile → ℕ → Header
-showing_header profile slot = bare_header profile true slot
+showing_header profile slot =
+    record default_header { profile = profile; show_existing_frame = true; frame_to_show_map_idx = slot }

@@ -7,7 +7,7 @@ use base_loop_filter::LoopFilterParams;
 use base_quantization::QuantizationParams;
 use base_segmentation::SegmentationParams;
 
-#[derive(Clone, Copy)]
+#[derive(Clone, Copy, Debug, PartialEq, Eq)]
 pub struct Header {
     pub profile: Profile,
     pub bit_depth: BitDepth,
@@ -88,52 +88,23 @@ impl Header {
         uncompressed_header_size_in_bytes: 0,
     };
 
-    pub fn default() -> Self
-        ensures { result ≡ default_header }
-    {
-        Self::DEFAULT
-    }
-
-    // A header that only names a slot to show. No field that is an enum can be written, so the default isn't changed
-    // but said again.
+    // A header that only names a slot to show.
     pub fn showing(profile: Profile, slot: u8) -> Self
         ensures { result ≡ showing_header profile slot }
     {
         Self {
             profile,
-            bit_depth: BitDepth::Depth8,
-            subsampling_x: false,
-            subsampling_y: false,
-            color_space: ColorSpace::Unknown,
-            color_range: ColorRange::StudioSwing,
             show_existing_frame: true,
             frame_to_show_map_idx: slot,
-            frame_type: FrameType::KeyFrame,
-            show_frame: false,
-            error_resilient_mode: false,
-            width: 0,
-            height: 0,
-            render_and_frame_size_different: false,
-            render_width: 0,
-            render_height: 0,
-            intra_only: false,
-            reset_frame_context: 0,
-            refresh_frame_flags: 0,
-            ref_frame_idx: [0; Self::REFS_PER_FRAME],
-            ref_frame_sign_bias: [0; Self::MAX_REF_FRAMES],
-            allow_high_precision_mv: false,
-            interpolation_filter: InterpolationFilter::EightTap,
-            refresh_frame_context: false,
-            frame_parallel_decoding_mode: false,
-            frame_context_idx: 0,
-            lf: LoopFilterParams::DEFAULT,
-            quant: QuantizationParams::DEFAULT,
-            seg: SegmentationParams::DEFAULT,
-            tile_cols_log2: 0,
-            tile_rows_log2: 0,
-            lossless: false,
-            header_size_in_bytes: 0,
-            uncompressed_header_size_in_bytes: 0,
+            ..Self::DEFAULT
         }
+    }
+}
+
+impl Default for Header {
+    ghost is_default = { λ h. h ≡ default_header };
+
+    fn default() -> Self {
+        Self::DEFAULT
     }
 }

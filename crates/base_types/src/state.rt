@@ -7,7 +7,7 @@ use base_loop_filter::LoopFilterParams;
 use base_segmentation::SegmentationParams;
 use base_size::FrameSize;
 
-#[derive(Clone, Copy)]
+#[derive(Clone, Copy, Debug, PartialEq, Eq)]
 pub struct ReaderState {
     pub bit_depth: BitDepth,
     pub subsampling_x: bool,
@@ -21,19 +21,22 @@ pub struct ReaderState {
 
 impl ReaderState {
     pub const REF_FRAMES: usize = FrameSize::REMEMBERED;
+}
 
-    pub fn fresh() -> Self
-        ensures { result ≡ fresh_state }
-    {
+// A reader's state before it has read anything.
+impl Default for ReaderState {
+    ghost is_default = { λ s. s ≡ fresh_state };
+
+    fn default() -> Self {
         Self {
             bit_depth: BitDepth::Depth8,
             subsampling_x: false,
             subsampling_y: false,
             color_space: ColorSpace::Unknown,
             color_range: ColorRange::StudioSwing,
-            lf: LoopFilterParams::default(),
-            seg: SegmentationParams::default(),
-            reference_frame_sz: [FrameSize::none(); Self::REF_FRAMES],
+            lf: LoopFilterParams::DEFAULT,
+            seg: SegmentationParams::DEFAULT,
+            reference_frame_sz: [FrameSize::default(); Self::REF_FRAMES],
         }
     }
 }

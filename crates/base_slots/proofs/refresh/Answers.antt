@@ -14,7 +14,7 @@ loop-i-init c = (omega arith, search (rules, length_mapped), refl)
 pub loop-i-preserved : goal.loop-i-preserved
 loop-i-preserved c =
     let h : c.loop-i.i < length c.loop-i.out = omega arith in
-    (omega arith, rw length-set c.loop-i.invariant.1, rw c.slot_after-kept.ensures (sym (each_step _ _ _ _ h) ∙ c.loop-i.invariant.2))
+    (omega arith, rw length-set c.loop-i.invariant.1, rw c.slot_after.ensures (sym (each_step _ _ _ _ h) ∙ c.loop-i.invariant.2))
 
 pub returns : goal.returns
 returns c =
