@@ -14,7 +14,7 @@ use borrow.Author.Tests.{eqb-true, eqb-false, le-leb, lt-leb, lt-ltb, le-ltb}
 use Rattle.base_shared.specs.Choice.{pick}
 use Rattle.base_shared.proofs.Order.{below}
 use Rattle.base_little.specs.Little.{little}
-use Rattle.ivf_file.specs.declared.RecordRead.TheVariants as read
+use Rattle.std.specs.Prelude.{Err}
 use Rattle.ivf_file.specs.Record.{data_length, data_end, record_at, cut_short}
 use Rattle.ivf_file.specs.Table.{RecordWhen}
 use Rattle.ivf_file.proofs.Cases.{at_end, cut, whole}
@@ -154,7 +154,7 @@ module _ (f : List ℕ) (p : ℕ) where
   number = next_number (cut_short f p) (next_at f p)
 
   abbrev Numbered : Type 0
-  Numbered = ((number ≡ 8) × RecordWhen read.Cut f p) ⊎ (((number ≡ 9) × TooMuch f p) ⊎ ((number ≡ 0) × (RecordWhen read.Cut f p → ⊥) × (TooMuch f p → ⊥)))
+  Numbered = ((number ≡ 8) × RecordWhen (Err (record {})) f p) ⊎ (((number ≡ 9) × TooMuch f p) ⊎ ((number ≡ 0) × (RecordWhen (Err (record {})) f p → ⊥) × (TooMuch f p → ⊥)))
 
   numbered : Numbered
   unfolding cut_short
@@ -171,7 +171,7 @@ module _ (f : List ℕ) (p : ℕ) where
       go (data_part h l c) = inl (rw (← cut_stands f p h l c), (λ z. omega arith, inr c))
       go (all l c) = inr (inr (rw (← data_stands f p (omega arith) l c), λ x. ⊎_elim (λ t. omega arith) (λ t. omega arith) x.1, λ x. omega (arith, x.1)))
 
-  pub next_8 : (number ≡ 8) ↔ RecordWhen read.Cut f p
+  pub next_8 : (number ≡ 8) ↔ RecordWhen (Err (record {})) f p
   next_8 = (
     λ e. ⊎_elim (λ x. x.1) (⊎_elim (λ x. absurd (omega (arith, x.0))) (λ x. absurd (omega (arith, x.0)))) numbered,
     λ h. ⊎_elim (λ x. x.0) (⊎_elim (λ x. absurd (x.1.0 h.1)) (λ x. absurd (x.1 h))) numbered,
@@ -183,7 +183,7 @@ module _ (f : List ℕ) (p : ℕ) where
     λ h. ⊎_elim (λ x. absurd (h.0 x.1.1)) (⊎_elim (λ x. x.0) (λ x. absurd (x.2 h))) numbered,
   )
 
-  pub next_0 : (number ≡ 0) ↔ ((RecordWhen read.Cut f p → ⊥) × (TooMuch f p → ⊥))
+  pub next_0 : (number ≡ 0) ↔ ((RecordWhen (Err (record {})) f p → ⊥) × (TooMuch f p → ⊥))
   next_0 = (
     λ e. ⊎_elim (λ x. absurd (omega (arith, x.0))) (⊎_elim (λ x. absurd (omega (arith, x.0))) (λ x. (x.1, x.2))) numbered,
     λ h. ⊎_elim (λ x. absurd (h.0 x.1)) (⊎_elim (λ x. absurd (h.1 x.1)) (λ x. x.0)) numbered,

@@ -1,20 +1,18 @@
 -- What stands next at a place of a whole file, by ivf's `record_of`, and what may be said while a part of the file is
 -- at hand. proofs/Whole.antt shows that `next_record` says so.
 -- Assumes nothing.
-use Rattle.std.specs.Prelude.{ℕ, ◌+◌, ◌≤◌, ◌<◌, ◌≡◌, ◌⊎◌, Bool, true, false, ◌&&◌, List, leb, ltb, length}
+use Rattle.std.specs.Prelude.{ℕ, ◌+◌, ◌≤◌, ◌<◌, ◌≡◌, ◌⊎◌, Bool, true, false, ◌&&◌, None, Some, Ok, Err, List, leb, ltb, length}
 use Rattle.base_shared.specs.Choice.{pick}
-use Rattle.ivf_file.specs.declared.RecordRead.{RecordRead}
-use Rattle.ivf_file.specs.declared.RecordRead.TheVariants as read
-use Rattle.ivf_file.specs.Record.{data_start, data_length, record_of}
+use Rattle.ivf_file.specs.Record.{data_start, data_length, RecordRead, record_of}
 use Rattle.ivf_file.specs.Table.{CutShort}
 use Rattle.ivf_arriving.specs.declared.Next.{Next}
 use Rattle.ivf_arriving.specs.declared.Next.TheVariants.{End, More, Cut, Data, Long}
 
 -- what ivf says, of a record its length alone
 abbrev pub told : RecordRead → Next
-told read.End = End
-told read.Cut = Cut
-told (read.Record r) = Data r.length
+told (Ok None) = End
+told (Err e) = Cut
+told (Ok (Some r)) = Data r.length
 
 -- the header of the record at p is whole, and its length over the limit
 abbrev pub too_long : List ℕ → ℕ → Bool

@@ -5,8 +5,6 @@ ghost use Rattle.std.specs.Prelude.{◌≤◌, ◌≡◌, length};
 ghost use Rattle.base_little.specs.Little.{little};
 ghost use Rattle.ivf_arriving.specs.Next.{empty_by, short_by, next_record};
 
-use base_little::Little;
-
 // No record with more data is listed.
 pub const MAX_DATA: u64 = 65536;
 
@@ -41,10 +39,7 @@ fn data_size(s: &[u8]) -> u64
     requires { 4 ≤ length s.now }
     ensures { result ≡ little s.now 0 4 }
 {
-    let Little::Value(n) = ivf_file::record_length(s) else {
-        return 0;
-    };
-    n
+    ivf_file::record_length(s).unwrap()
 }
 
 // What stands at the start of s, which the file goes on after unless it has ended.

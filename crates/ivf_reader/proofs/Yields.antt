@@ -7,9 +7,8 @@ use mathlib.Core.List.{List, [], ◌∷◌}
 use native.Mathlib.Omega.{arith}
 use lib.ListN.{length, get_or, length-append}
 use denote.Ref.{Bor}
-use Rattle.ivf_file.specs.declared.RecordRead.{RecordRead}
-use Rattle.ivf_file.specs.declared.RecordRead.TheVariants as read
-use Rattle.ivf_file.specs.Record.{record_of}
+use Rattle.std.specs.Prelude.{None, Some, Ok, Err}
+use Rattle.ivf_file.specs.Record.{RecordRead, record_of}
 use Rattle.ivf_file.specs.Records.{follow, records_from, records_of}
 use Rattle.ivf_file.specs.Spelling.{FileValues, spell_header}
 use Rattle.ivf_file.specs.Recording.{RecordValues, Recording, Say}
@@ -22,7 +21,7 @@ use Rattle.ivf_reader.specs.Yields.{yields, in_turn, all_in_turn}
 use Rattle.ivf_reader.proofs.Places.{past_end_cut}
 
 -- from a place past the file's end 8, for ever
-past_end_yields : (n : ℕ) (r : RecordReader) → length r.file.now < r.place → yields n r ≡ in_turn n [] read.Cut
+past_end_yields : (n : ℕ) (r : RecordReader) → length r.file.now < r.place → yields n r ≡ in_turn n [] (Err (record {}))
 unfolding yields in_turn
 past_end_yields zero r h = refl
 past_end_yields (suc n) r h = let k = past_end_cut r h in rw (k.0, past_end_yields n r h)
@@ -37,9 +36,9 @@ module _ (f : Bor (List ℕ)) where
   step_yields n m p h k others = rw (records_step f.now m p h k) (go (record_of f.now p) refl)
     where
       go : (a : RecordRead) → record_of f.now p ≡ a → (record_of f.now p ∷ yields n (moved_on (at p))) ≡ all_in_turn (suc n) (follow a (records_from m f.now))
-      go read.End e = rw e (ap (λ (x : List RecordRead). read.End ∷ x) (rw (records_step f.now m p h k, e) at (others p h k)))
-      go read.Cut e = rw e (ap (λ (x : List RecordRead). read.Cut ∷ x) (rw (records_step f.now m p h k, e) at (others p h k)))
-      go (read.Record r) e = let w = lies f.now p r e in rw e (rw (others r.next w.inside (omega (arith, w.header_first, w.then_data))))
+      go (Ok None) e = rw e (ap (λ (x : List RecordRead). Ok None ∷ x) (rw (records_step f.now m p h k, e) at (others p h k)))
+      go (Err _) e = rw e (ap (λ (x : List RecordRead). Err (record {}) ∷ x) (rw (records_step f.now m p h k, e) at (others p h k)))
+      go (Ok (Some r)) e = let w = lies f.now p r e in rw e (rw (others r.next w.inside (omega (arith, w.header_first, w.then_data))))
 
   all_yields : (n m p : ℕ) → p ≤ length f.now → length f.now ≤ p + m → yields n (at p) ≡ all_in_turn n (records_from m f.now p)
   unfolding yields in_turn
@@ -56,7 +55,7 @@ module _ (f : Bor (List ℕ)) where
   opened_yields h n = all_yields n (length f.now) 32 h (omega arith)
 
   -- a file without a whole header has none
-  pub short_yields : length f.now < 32 → (n : ℕ) → yields n (opened f) ≡ in_turn n [] read.Cut
+  pub short_yields : length f.now < 32 → (n : ℕ) → yields n (opened f) ≡ in_turn n [] (Err (record {}))
   short_yields h n = past_end_yields n (opened f) h
 
   -- of a file of bytes that is spelled, those that are spelled

@@ -4,25 +4,14 @@
 
 ghost use Rattle.std.specs.Prelude.{◌≡◌};
 ghost use Rattle.ivf_file.specs.Record.{record_of};
-ghost use Rattle.ivf_reader.specs.Reader.{opened, reader_place_after, moved_on};
+ghost use Rattle.ivf_reader.specs.Reader.{opened, moved_on};
 
-use ivf_file::RecordRead;
+use ivf_file::{Cut, Record};
 
 #[derive(Clone, Copy)]
 pub struct RecordReader<'a> {
     pub file: &'a [u8],
     pub place: usize,
-}
-
-// Where the next record stands. At the end, and where a record is cut short, the place stays.
-fn place_after(read: RecordRead, place: usize) -> usize
-    ensures { result ≡ reader_place_after read place }
-{
-    match read {
-        RecordRead::Record(record) => record.next,
-        RecordRead::End => place,
-        RecordRead::Cut => place,
-    }
 }
 
 impl<'a> RecordReader<'a> {
@@ -33,14 +22,14 @@ impl<'a> RecordReader<'a> {
         RecordReader { file, place: 32 }
     }
 
-    // The record at the place, which moves on behind it.
-    pub fn next_record(&mut self) -> RecordRead
+    // The record at the place, which moves on behind it. At the end, and where a record is cut short, it stays.
+    pub fn next_record(&mut self) -> Result<Option<Record>, Cut>
         ensures { (result ≡ record_of self.old.file.now self.old.place) × (self.new ≡ moved_on self.old) }
     {
-        let place = self.place;
-        let read = ivf_file::read_record(self.file, place);
-        let next = place_after(read, place);
-        self.place = next;
-        read
+        let read = ivf_file::read_record(self.file, self.place)?;
+        if let Some(record) = read {
+            self.place = record.next;
+        }
+        Ok(read)
     }
 }

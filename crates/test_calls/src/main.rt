@@ -15,10 +15,9 @@ use base_enums::{
     TryBitDepth, TryColorRange, TryColorSpace, TryFrameType, TryInterpolationFilter, TryProfile,
     TryReferenceFrameType,
 };
-use base_little::Little;
 use base_parts::{front, rest};
 use base_stream::{Ending, Filled, Room, Streams, fill_front};
-use ivf_file::{Record, RecordRead};
+use ivf_file::Record;
 use test_values::{byte_at, flag_at};
 
 fn put_number(out: &mut [u8], at: usize, n: u64) -> usize {
@@ -109,7 +108,7 @@ fn try_colors(out: &mut [u8], at: usize, n: u32) -> usize {
 // What is asked.
 
 fn number_at(s: &[u8], at: usize) -> u64 {
-    let Little::Value(n) = base_little::read_little(s, at, 8) else {
+    let Ok(n) = base_little::read_little(s, at, 8) else {
         return 0;
     };
     n
@@ -173,9 +172,9 @@ fn put_record(out: &mut [u8], at: usize, record: Record) -> usize {
 fn tell_record(out: &mut [u8], at: usize, s: &[u8]) -> usize {
     let read = ivf_file::read_record(rest(s, 9), number_at(s, 1) as usize);
     match read {
-        RecordRead::Record(record) => put_record(out, at, record),
-        RecordRead::End => base_bytes::put(out, at, b" end\n"),
-        RecordRead::Cut => base_bytes::put(out, at, b" cut\n"),
+        Ok(Some(record)) => put_record(out, at, record),
+        Ok(None) => base_bytes::put(out, at, b" end\n"),
+        Err(_) => base_bytes::put(out, at, b" cut\n"),
     }
 }
 
@@ -211,7 +210,7 @@ fn read_asked(streams: &mut Streams, buf: &mut [u8]) -> Asked {
     let Filled::Full = filled else {
         return stopped(filled);
     };
-    let Little::Value(n) = base_little::read_little(&size, 0, 4) else {
+    let Ok(n) = base_little::read_little(&size, 0, 4) else {
         return Asked::End;
     };
     let filled = fill_front(streams, buf, n as usize);

@@ -5,7 +5,6 @@
 ghost use Rattle.std.specs.Prelude.{◌≤◌, ◌≡◌, length};
 
 use base_enums::{BitDepth, ColorRange, ColorSpace};
-use base_little::Little;
 use base_loop_filter::LoopFilterParams;
 use base_parts::{front, rest};
 use base_quantization::QuantizationParams;
@@ -359,7 +358,7 @@ fn tell_last(s: &[u8], work: Work, series: Series) -> Told {
 // The state that 234 bytes spell.
 
 fn number_at(s: &[u8], at: usize) -> u32 {
-    let Little::Value(n) = base_little::read_little(s, at, 4) else {
+    let Ok(n) = base_little::read_little(s, at, 4) else {
         return 0;
     };
     (n % 4294967296) as u32
@@ -466,7 +465,7 @@ const LONGEST_CHUNK: usize = 65536;
 
 // A chunk at a place, with its length at another.
 fn chunk_at(s: &[u8], length_at: usize, at: usize, work: Work) -> Record {
-    let Little::Value(n) = base_little::read_little(s, length_at, 4) else {
+    let Ok(n) = base_little::read_little(s, length_at, 4) else {
         return Record::End;
     };
     let size = n as usize;
@@ -480,14 +479,14 @@ fn chunk_at(s: &[u8], length_at: usize, at: usize, work: Work) -> Record {
 }
 
 fn parses_at(s: &[u8]) -> Record {
-    let Little::Value(n) = base_little::read_little(s, 1, 4) else {
+    let Ok(n) = base_little::read_little(s, 1, 4) else {
         return Record::End;
     };
     chunk_at(s, 5, 9, Work::Parses(n))
 }
 
 fn steps_at(s: &[u8]) -> Record {
-    let Little::Value(n) = base_little::read_little(s, 1, 4) else {
+    let Ok(n) = base_little::read_little(s, 1, 4) else {
         return Record::End;
     };
     chunk_at(s, 5, 9, Work::Steps(n))

@@ -10,7 +10,6 @@
 ghost use Rattle.std.specs.Prelude.{◌≤◌, ◌≡◌, length};
 
 use base_enums::{BitDepth, ColorRange, ColorSpace, FrameType};
-use base_little::Little;
 use base_loop_filter::LoopFilterParams;
 use base_parts::{front, rest};
 use base_quantization::QuantizationParams;
@@ -754,7 +753,7 @@ fn read_chunk(streams: &mut Streams, buf: &mut [u8]) -> Record {
     let Filled::Full = filled else {
         return stopped(filled);
     };
-    let Little::Value(n) = base_little::read_little(&size, 0, 4) else {
+    let Ok(n) = base_little::read_little(&size, 0, 4) else {
         return Record::End;
     };
     let filled = fill_front(streams, buf, n as usize);
@@ -770,10 +769,10 @@ fn read_frame(streams: &mut Streams, buf: &mut [u8]) -> Record {
     let Filled::Full = filled else {
         return stopped(filled);
     };
-    let Little::Value(offset) = base_little::read_little(&place, 0, 8) else {
+    let Ok(offset) = base_little::read_little(&place, 0, 8) else {
         return Record::End;
     };
-    let Little::Value(size) = base_little::read_little(&place, 8, 8) else {
+    let Ok(size) = base_little::read_little(&place, 8, 8) else {
         return Record::End;
     };
     let chunk = read_chunk(streams, buf);
