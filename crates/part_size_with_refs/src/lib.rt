@@ -60,7 +60,7 @@ fn slot_size(slots: [FrameSize; FrameSize::REMEMBERED], slot: u8) -> FrameSize
     if i < FrameSize::REMEMBERED {
         slots[i]
     } else {
-        FrameSize::none()
+        FrameSize::default()
     }
 }
 
