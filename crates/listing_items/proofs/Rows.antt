@@ -40,7 +40,7 @@ unfolding
     Split.filled Split.first_past Split.placed Split.split_of Frames.state_before Frames.frame_read
     Frames.first_fault Chunk.judged_chunk File.stands_at File.is_ivf FileRecord.record_at FileRecord.cut_short FileRecord.record_of Records.records_from Said.file_said
     Clamp.clamp_to Grid.grid_of Grid.row_of Levels.levels_of Levels.levels_at Levels.delta_grid Levels.pair_of
-    Levels.segment_level Levels.level_moved Levels.scaled Features.features_of Features.features_in
+    Levels.segment_level Levels.level_moved Levels.scaled Features.features_of
     QLists.dc_qlookup8 QLists.ac_qlookup8 QTables.dc_row QTables.ac_row QTables.dc_table QTables.ac_table Quant.qindex_of Quant.scale_at Quant.scales_at Entries.index Entries.entries_with Entries.entries_of Segment.segment_with Segment.segment_of
     frame_items records_past items_of long_form
 recorded = refl

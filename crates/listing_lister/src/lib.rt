@@ -79,7 +79,7 @@ impl Lister {
             stage: Stage::Start,
             chunks: 0,
             refused: 0,
-            state: ReaderState::fresh(),
+            state: ReaderState::default(),
         }
     }
 

@@ -73,12 +73,12 @@ impl Tracer {
     pub fn new() -> Tracer
         ensures { result ≡ fresh_tracer }
     {
-        let read = chunk_answer::refused(Answer::Empty, ReaderState::fresh());
+        let read = chunk_answer::refused(Answer::Empty, ReaderState::default());
         Tracer {
             stage: Stage::Start,
             chunks: 0,
             refused: 0,
-            state: ReaderState::fresh(),
+            state: ReaderState::default(),
             records: [Segmentation::default(); 8],
             chunk: 0,
             frame: 0,

@@ -40,10 +40,7 @@ fn ref_slot(refs: Refs, i: usize) -> u8
 fn slot_size(slots: [FrameSize; FrameSize::REMEMBERED], slot: u8) -> FrameSize
     ensures { result ≡ slot_size slots slot }
 {
-    slots
-        .get(slot as usize)
-        .copied()
-        .unwrap_or(FrameSize::none())
+    slots.get(slot as usize).copied().unwrap_or_default()
 }
 
 // The sizes of an inter frame, whose size is that of a reference or one of its own.

@@ -59,9 +59,7 @@ fn levels_at(lf: LoopFilterParams, level: u8, old: Grid) -> Grid
         return [[0; 2]; 4];
     }
     if lf.delta_enabled {
-        let refs = lf.ref_deltas;
-        let modes = lf.mode_deltas;
-        delta_grid(lf.level, level, refs, modes, old)
+        delta_grid(lf.level, level, lf.ref_deltas, lf.mode_deltas, old)
     } else {
         [[level; 2]; 4]
     }
@@ -86,11 +84,7 @@ fn keep(lf: LoopFilterParams, frame: Grid, old: Grid) -> Grid
         return frame;
     }
     if lf.delta_enabled {
-        let intra = [frame[0][0], old[0][1]];
-        let last = frame[1];
-        let golden = frame[2];
-        let alt = frame[3];
-        [intra, last, golden, alt]
+        [[frame[0][0], old[0][1]], frame[1], frame[2], frame[3]]
     } else {
         frame
     }

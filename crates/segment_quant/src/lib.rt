@@ -13,7 +13,7 @@ use segment_tables::Table;
 const MAX_Q_INDEX: u8 = 255;
 
 // What a segment's blocks are scaled by.
-#[derive(Clone, Copy)]
+#[derive(Clone, Copy, Debug, PartialEq, Eq)]
 pub struct Scales {
     pub luma_ac: i16,
     pub luma_dc: i16,

@@ -10,13 +10,13 @@ use Rattle.segment_quant.specs.Quant.{qindex, dc_quant, ac_quant, scales_at, sca
 use Rattle.segment_records.specs.declared.entries.Entries.{Entries}
 use Rattle.segment_records.specs.declared.Segmentation.{Segmentation}
 use Rattle.segment_records.specs.Entries.{index, entries_with, entries_of}
-use Rattle.segment_features.specs.Features.{features_of, features_in}
+use Rattle.segment_features.specs.Features.{features_of}
 use Rattle.segment_records.specs.Segmentation.{segment_with, grid_after, segment_of}
 
 -- the scales are those of the dequantization functions
 pub scales_are : (depth : BitDepth) (q : QuantizationParams) (s : SegmentationParams) (i : ℕ)
     → (entries_of depth q (features_of s i)).scales ≡ scales_of depth q s i
-unfolding entries_of entries_with index features_of features_in qindex scales_at scales_of dc_quant ac_quant
+unfolding entries_of entries_with index features_of qindex scales_at scales_of dc_quant ac_quant
 scales_are depth q s i = refl
 
 -- the entries that a record holds

@@ -9,7 +9,7 @@ use Rattle.segment_levels.specs.Vp9.{lvl_seg, filter_level}
 use Rattle.segment_quant.specs.Vp9.{quant_of}
 use Rattle.segment_records.specs.declared.Segmentation.{Segmentation}
 
--- lvl_seg of segment i
+-- lvlSeg of segment i
 abbrev pub level_of : Header → ℕ → ℤ
 level_of h i =
     lvl_seg h.lf.level (seg_feature_active h.seg i SEG_LVL_ALT_L) h.seg.abs_or_delta_update

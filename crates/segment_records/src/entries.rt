@@ -10,7 +10,7 @@ use segment_tables::Table;
 
 const MAX_Q_INDEX: u8 = 255;
 
-#[derive(Clone, Copy)]
+#[derive(Clone, Copy, Debug, PartialEq, Eq)]
 pub struct Entries {
     pub scales: Scales,
     pub reference_frame_enabled: bool,
@@ -19,9 +19,9 @@ pub struct Entries {
 }
 
 // The frame's own scales serve every segment without an active feature.
-fn scales_of<'a>(
-    dc: &'a Table,
-    ac: &'a Table,
+fn scales_of(
+    dc: &Table,
+    ac: &Table,
     quant: QuantizationParams,
     frame: Scales,
     f: Features,
@@ -36,9 +36,9 @@ fn scales_of<'a>(
     }
 }
 
-pub fn entries_of<'a>(
-    dc: &'a Table,
-    ac: &'a Table,
+pub fn entries_of(
+    dc: &Table,
+    ac: &Table,
     quant: QuantizationParams,
     frame: Scales,
     f: Features,

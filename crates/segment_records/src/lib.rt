@@ -20,7 +20,7 @@ use segment_quant::Scales;
 use segment_tables::Table;
 
 // The level of reference r in mode m stands at r * 2 + m of lvl_lookup.
-#[derive(Clone, Copy)]
+#[derive(Clone, Copy, Debug, PartialEq, Eq)]
 pub struct Segmentation {
     pub lvl_lookup: [u8; 8],
     pub luma_ac_quant_scale: i16,
@@ -32,10 +32,10 @@ pub struct Segmentation {
     pub reference_skip_enabled: bool,
 }
 
-impl Segmentation {
-    pub fn default() -> Self
-        ensures { result ≡ default_segment }
-    {
+impl Default for Segmentation {
+    ghost is_default = { λ s. s ≡ default_segment };
+
+    fn default() -> Self {
         Self {
             lvl_lookup: [0; 8],
             luma_ac_quant_scale: 0,
@@ -47,7 +47,9 @@ impl Segmentation {
             reference_skip_enabled: false,
         }
     }
+}
 
+impl Segmentation {
     // The records after a frame. Each depth names its tables: a compiled choice between tables goes entry by entry.
     pub fn update_segmentation(old: [Segmentation; 8], header: Header) -> [Segmentation; 8]
         ensures { result ≡ each (segment_of header) 0 old }
@@ -74,9 +76,9 @@ impl Segmentation {
 }
 
 // What the frame itself has is made once, and then each record.
-fn renew_all<'a>(
-    dc: &'a Table,
-    ac: &'a Table,
+fn renew_all(
+    dc: &Table,
+    ac: &Table,
     lf: LoopFilterParams,
     quant: QuantizationParams,
     seg: SegmentationParams,
@@ -86,28 +88,18 @@ fn renew_all<'a>(
 {
     let scales = segment_quant::scales_at(dc, ac, quant, quant.base_q_idx);
     let grid = segment_levels::frame_levels(lf);
-    let on = seg.feature_enabled;
-    let values = seg.feature_data;
     let mut out = old;
     for i in 0..8u8 {
-        let s = out[i as usize];
-        let f = segment_features::features_of(
-            seg.enabled,
-            seg.abs_or_delta_update,
-            &on,
-            &values,
-            i,
-        );
-        let r = renew(dc, ac, lf, quant, scales, grid, f, s);
-        out[i as usize] = r;
+        let f = segment_features::features_of(&seg, i);
+        out[i as usize] = renew(dc, ac, lf, quant, scales, grid, f, out[i as usize]);
     }
     out
 }
 
 // A record after a frame that has the given scales and levels itself.
-fn renew<'a>(
-    dc: &'a Table,
-    ac: &'a Table,
+fn renew(
+    dc: &Table,
+    ac: &Table,
     lf: LoopFilterParams,
     quant: QuantizationParams,
     scales: Scales,
@@ -117,10 +109,8 @@ fn renew<'a>(
 ) -> Segmentation
     ensures { result ≡ renewed dc.now ac.now lf quant scales grid f old }
 {
-    let before = old.lvl_lookup;
-    let after = levels_after(lf, grid, f, before);
-    let e = entries::entries_of(dc, ac, quant, scales, f);
-    segment_with(after, e)
+    let after = levels_after(lf, grid, f, old.lvl_lookup);
+    segment_with(after, entries::entries_of(dc, ac, quant, scales, f))
 }
 
 // The levels of a record after a frame that has the given levels itself.

@@ -12,8 +12,6 @@ ghost use Rattle.std.specs.Prelude.{◌≡◌, length};
 
 use base_enums::{
     BitDepth, ColorRange, ColorSpace, FrameType, InterpolationFilter, Profile, ReferenceFrameType,
-    TryBitDepth, TryColorRange, TryColorSpace, TryFrameType, TryInterpolationFilter, TryProfile,
-    TryReferenceFrameType,
 };
 use base_parts::{front, rest};
 use base_stream::{Ending, Filled, Room, Streams, fill_front};
@@ -38,56 +36,56 @@ fn put_line_end(out: &mut [u8], at: usize) -> usize {
 fn try_interpolation_filter(out: &mut [u8], at: usize, n: u32) -> usize {
     let answer = InterpolationFilter::try_from(n);
     match answer {
-        TryInterpolationFilter::Ok(v) => put_number(out, at, v.number() as u64),
-        TryInterpolationFilter::Err => put_none(out, at),
+        Ok(v) => put_number(out, at, u32::from(v) as u64),
+        Err(_) => put_none(out, at),
     }
 }
 
 fn try_reference_frame_type(out: &mut [u8], at: usize, n: u32) -> usize {
     let answer = ReferenceFrameType::try_from(n);
     match answer {
-        TryReferenceFrameType::Ok(v) => put_number(out, at, v.number() as u64),
-        TryReferenceFrameType::Err => put_none(out, at),
+        Ok(v) => put_number(out, at, u32::from(v) as u64),
+        Err(_) => put_none(out, at),
     }
 }
 
 fn try_frame_type(out: &mut [u8], at: usize, n: u8) -> usize {
     let answer = FrameType::try_from(n);
     match answer {
-        TryFrameType::Ok(v) => put_number(out, at, v.number() as u64),
-        TryFrameType::Err => put_none(out, at),
+        Ok(v) => put_number(out, at, u8::from(v) as u64),
+        Err(_) => put_none(out, at),
     }
 }
 
 fn try_profile(out: &mut [u8], at: usize, n: u32) -> usize {
     let answer = Profile::try_from(n);
     match answer {
-        TryProfile::Ok(v) => put_number(out, at, v.number() as u64),
-        TryProfile::Err => put_none(out, at),
+        Ok(v) => put_number(out, at, u32::from(v) as u64),
+        Err(_) => put_none(out, at),
     }
 }
 
 fn try_bit_depth(out: &mut [u8], at: usize, n: u32) -> usize {
     let answer = BitDepth::try_from(n);
     match answer {
-        TryBitDepth::Ok(v) => put_number(out, at, v.number() as u64),
-        TryBitDepth::Err => put_none(out, at),
+        Ok(v) => put_number(out, at, u32::from(v) as u64),
+        Err(_) => put_none(out, at),
     }
 }
 
 fn try_color_space(out: &mut [u8], at: usize, n: u32) -> usize {
     let answer = ColorSpace::try_from(n);
     match answer {
-        TryColorSpace::Ok(v) => put_number(out, at, v.number() as u64),
-        TryColorSpace::Err => put_none(out, at),
+        Ok(v) => put_number(out, at, u32::from(v) as u64),
+        Err(_) => put_none(out, at),
     }
 }
 
 fn try_color_range(out: &mut [u8], at: usize, n: u32) -> usize {
     let answer = ColorRange::try_from(n);
     match answer {
-        TryColorRange::Ok(v) => put_number(out, at, v.number() as u64),
-        TryColorRange::Err => put_none(out, at),
+        Ok(v) => put_number(out, at, u32::from(v) as u64),
+        Err(_) => put_none(out, at),
     }
 }
 

@@ -52,7 +52,7 @@ unfolding
     Reader.must Reader.group_if Reader.field_if Tables.color_fields Tables.size_fields Tables.render_fields Tables.ref_fields Tables.refs_fields Tables.found_fields Tables.found_at Tables.delta_fields Tables.loop_filter_fields Tables.quantizer_fields Tables.prob_fields Tables.probs_fields Tables.feature_fields Tables.features_fields Tables.segmentation_fields Tables.run_fields Lists.first Tables.least Tables.most Tables.tiles_fields Header.size_of Header.frame_fields Header.header_fields Settings.delta_value Settings.loop_filter_of Settings.quantizer_of Settings.lossless Settings.segmentation_of Record.frame_of Record.header_of Record.state_from Record.state_after Reading.read_color Reading.read_size Reading.read_render Reading.read_ref Reading.read_refs Reading.read_found Reading.read_delta Reading.read_loop_filter Reading.read_quantizer Reading.read_segmentation Reading.read_run Reading.read_tiles Reading.read_sync Reading.read_frame Reading.read_header Lists.each Answer.parsed
     Little.little Layout.announced Layout.cut Layout.indexed Layout.layout_of Layout.start
     Split.filled Split.first_past Split.placed Split.split_of Frames.state_before Frames.frame_read
-    Frames.first_fault Chunk.judged_chunk Features.features_of Features.features_in Levels.levels_of Levels.levels_at
+    Frames.first_fault Chunk.judged_chunk Features.features_of Levels.levels_of Levels.levels_at
     Levels.delta_grid Levels.pair_of Levels.segment_level Levels.level_moved Levels.scaled Clamp.clamp_to frames_from
 all_hold =
     (refl, refl, refl)

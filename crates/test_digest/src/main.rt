@@ -74,7 +74,7 @@ fn header_colors(h: u32, header: Header) -> u32 {
     let depth = header.bit_depth;
     let space = header.color_space;
     let range = header.color_range;
-    let h = mix(h, profile.number());
+    let h = mix(h, u32::from(profile));
     colors(
         h,
         depth,
@@ -244,7 +244,7 @@ struct Series {
 
 fn fresh() -> Series {
     Series {
-        state: ReaderState::fresh(),
+        state: ReaderState::default(),
         segments: [Segmentation::default(); 8],
     }
 }

@@ -19,7 +19,7 @@ unfolding
     Lists.each Scales.dc_qlookup8 Scales.dc_qlookup10 Scales.dc_qlookup12 Scales.ac_qlookup8 Scales.ac_qlookup10
     Scales.ac_qlookup12 Tables.dc_row Tables.ac_row Tables.dc_table Tables.ac_table Clamp.clamp_to Quant.qindex_of
     Quant.scale_at Quant.scales_at Grid.grid_of Grid.row_of Levels.level_moved Levels.scaled Levels.segment_level
-    Levels.pair_of Levels.delta_grid Levels.levels_at Levels.levels_of Features.features_in Features.features_of
+    Levels.pair_of Levels.delta_grid Levels.levels_at Levels.levels_of Features.features_of
     Entries.index Entries.entries_with Entries.entries_of Segmentation.segment_with Segmentation.segment_of
     Settings.row_by
 rows_hold = (refl, (refl, (refl, (refl, tt))))

@@ -35,11 +35,11 @@ pub fn color_row(
     ensures { result ≡ color_row depth x y space range }
 {
     [
-        depth.number(),
+        u32::from(depth),
         x as u32,
         y as u32,
-        space.number(),
-        range.number(),
+        u32::from(space),
+        u32::from(range),
     ]
 }
 
@@ -50,7 +50,7 @@ pub fn picture_row(h: Header) -> [u32; 10]
     [
         h.show_existing_frame as u32,
         h.frame_to_show_map_idx as u32,
-        frame_type.number() as u32,
+        u8::from(frame_type) as u32,
         h.show_frame as u32,
         h.error_resilient_mode as u32,
         h.width,
@@ -77,7 +77,7 @@ pub fn source_row(h: Header) -> [u32; 15]
         byte(h.ref_frame_sign_bias[2]),
         byte(h.ref_frame_sign_bias[3]),
         h.allow_high_precision_mv as u32,
-        filter.number(),
+        u32::from(filter),
         h.refresh_frame_context as u32,
         h.frame_parallel_decoding_mode as u32,
         h.frame_context_idx as u32,

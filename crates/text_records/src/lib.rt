@@ -17,7 +17,7 @@ fn put_profile(out: &mut [u8], at: usize, h: Header) -> usize
     ensures { Written out.old at (profile_text h) result out.new }
 {
     let profile = h.profile;
-    let row = [profile.number()];
+    let row = [u32::from(profile)];
     put_form(out, at, b"  Header { profile: Profile#, ", &row)
 }
 

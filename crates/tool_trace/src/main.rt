@@ -246,7 +246,7 @@ fn header_colors(form: &[u8], out: &mut [u8], pen: Pen, h: Header) -> Pen {
     let depth = h.bit_depth;
     let space = h.color_space;
     let range = h.color_range;
-    let pen = value(form, out, pen, profile.number() as u64);
+    let pen = value(form, out, pen, u32::from(profile) as u64);
     colors(
         form,
         out,
@@ -514,7 +514,7 @@ fn fresh(page: Page) -> Series {
     Series {
         chunk: 0,
         page,
-        state: ReaderState::fresh(),
+        state: ReaderState::default(),
         segments: [Segmentation::default(); 8],
     }
 }

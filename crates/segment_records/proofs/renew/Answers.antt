@@ -3,4 +3,4 @@ use Rattle.segment_records.proofs.renew.Goals as goal
 
 pub returns : goal.returns
 unfolding renewed
-returns c = rw (c.segment_with.ensures, c.entries_of-e.ensures, c.levels_after-after.ensures)
+returns c = rw (c.segment_with.ensures, c.entries_of.ensures, c.levels_after-after.ensures)

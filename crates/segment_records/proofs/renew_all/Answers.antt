@@ -3,7 +3,6 @@ use Prim.Native.Nat.{◌<◌, ◌≤◌}
 use native.Mathlib.Omega.{arith}
 use borrow.Author.Rules.{rules}
 use lib.ListN.{length, length-set}
-use Rattle.segment_features.specs.Features.{features_of}
 use Rattle.segment_records.specs.Once.{segment_at}
 use Rattle.base_shared.proofs.Each.{each_step, each_end, length_mapped}
 use Rattle.segment_records.proofs.renew_all.Goals as goal
@@ -17,7 +16,7 @@ returns c =
     sym (each_end _ _ _ h) ∙ c.loop-i.invariant.2
 
 pub loop-i-preserved : goal.loop-i-preserved
-unfolding segment_at features_of
+unfolding segment_at
 loop-i-preserved c =
     let f = c.features_of-f in
     let grid = c.frame_levels-grid in
@@ -25,5 +24,5 @@ loop-i-preserved c =
     let h : c.loop-i.i < length c.loop-i.out = omega arith in (
       omega arith,
       rw length-set c.loop-i.invariant.1,
-      rw (c.renew-r.ensures, f.ensures, grid.ensures, scales.ensures) (sym (each_step _ _ _ _ h) ∙ c.loop-i.invariant.2),
+      rw (c.renew.ensures, f.ensures, grid.ensures, scales.ensures) (sym (each_step _ _ _ _ h) ∙ c.loop-i.invariant.2),
     )

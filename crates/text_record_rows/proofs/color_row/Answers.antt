@@ -3,4 +3,4 @@ use Rattle.text_record_rows.proofs.color_row.Goals as goal
 
 pub returns : goal.returns
 unfolding color_row
-returns c = rw (c.number.ensures, c.number-2.ensures, c.number-3.ensures)
+returns c = rw (c.from.ensures, c.from-2.ensures, c.from-3.ensures)
