@@ -1,15 +1,16 @@
 -- Numbers of bytes, low byte first, as the loop that gathers them meets them.
 -- Assumes nothing.
 use Prim.Native.Nat.{ℕ, zero, suc, ◌+◌, ◌-◌, ◌*◌, ◌^◌, ◌<◌, ◌≤◌}
-use mathlib.Core.Path.{◌≡◌, refl}
+use mathlib.Core.Path.{◌≡◌, refl, sym, ◌∙◌}
 use mathlib.Core.Bool.{true, false}
 use mathlib.Core.List.{List}
 use native.Mathlib.Nat.{pow-le-pow_right, pow-succ'}
 use native.Mathlib.Omega.{arith}
 use lib.ListN.{length, get_or}
 use borrow.Author.Tests.{le-leb, lt-leb, le-ltb, lt-ltb}
+use Rattle.base_little.specs.declared.LittleError.{LittleError}
 use Rattle.base_little.specs.declared.LittleError.TheVariants.{Short, TooWide}
-use Rattle.std.specs.Prelude.{Ok, Err}
+use Rattle.std.specs.Prelude.{Result, Ok, Err}
 use Rattle.base_little.specs.Little.{little, holds, read_little}
 
 -- one more byte in front
@@ -61,3 +62,7 @@ module _ (s : List ℕ) (at n : ℕ) where
   pub little_value : (x : ℕ) → x ≡ little s at n → n ≤ 8 → at + n ≤ length s → Ok x ≡ read_little s at n
   unfolding read_little
   little_value x e h l = simp (le-leb n 8 h, holds_yes s at n l, e)
+
+  -- what is there is read
+  pub little_read : (r : Result ℕ LittleError) → r ≡ read_little s at n → n ≤ 8 → at + n ≤ length s → r ≡ Ok (little s at n)
+  little_read r e h l = e ∙ sym (little_value _ refl h l)

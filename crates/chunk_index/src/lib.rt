@@ -6,8 +6,6 @@ ghost use Rattle.base_little.specs.Little.{little};
 ghost use Rattle.chunk_index.specs.Layout.{marker, last_byte, laid, whole};
 ghost use Rattle.chunk_index.specs.Split.{refused_split, placed, split_of};
 
-use base_little::Little;
-
 #[derive(Clone, Copy)]
 pub enum Answer {
     // So many frames.
@@ -54,10 +52,7 @@ fn read_size(s: &[u8], at: usize, n: usize) -> usize
     requires { (n ≤ 4) × (at + n ≤ length s.now) }
     ensures { result ≡ little s.now at n }
 {
-    let Little::Value(z) = base_little::read_little(s, at, n) else {
-        return 0;
-    };
-    z as usize
+    base_little::read_little(s, at, n).unwrap() as usize
 }
 
 // `count` frames end to end, whose sizes have n bytes each, from `first` on.

@@ -1,4 +1,3 @@
-pub mod Numbers
 pub mod Four
 pub mod Cases
 pub mod Stands

@@ -11,7 +11,7 @@ use lib.Dec.{leb, ltb}
 use lib.ListN.{length}
 use borrow.Author.Tests.{ltb-true, ltb-false, leb-true, leb-false}
 use Rattle.base_shared.specs.Choice.{pick, pick_t}
-use Rattle.ivf_file.specs.declared.FileRead.TheVariants.{Header, Refused}
+use Rattle.std.specs.Prelude.{Ok, Err}
 use Rattle.ivf_file.specs.File.{is_ivf, file_of, file_header_of}
 use Rattle.ivf_arriving.specs.declared.Next.{Next}
 use Rattle.ivf_arriving.specs.declared.Next.TheVariants as next
@@ -91,7 +91,7 @@ file_moves : (ended : Bool) (s : List ℕ) → Moves Start ended (length s) (fil
 unfolding file_of is_ivf
 file_moves ended s = go (leb 32 (length s)) refl _
   where
-    go : (b : Bool) → leb 32 (length s) ≡ b → (others : Bool) → Moves Start ended (length s) (file_turn (pick (b && others) (Header (file_header_of s)) Refused))
+    go : (b : Bool) → leb 32 (length s) ≡ b → (others : Bool) → Moves Start ended (length s) (file_turn (pick (b && others) (Ok (file_header_of s)) (Err (record {}))))
     go true e true = let h = leb-true 32 (length s) e in record { within = h; fits = tt; brings = omega arith; pays = omega arith; stands = λ p k. tt }
     go true e false = ends Start ended (length s) 0 NoFile (omega arith) tt refl refl
     go false e others = ends Start ended (length s) 0 NoFile (omega arith) tt refl refl

@@ -12,7 +12,7 @@ use lib.Seq.{take-take, take_all, length-take-le, drop-drop}
 use borrow.Author.Tests.{eqb-true, eqb-false, ltb-true, ltb-false, leb-true, leb-false, lt-ltb, le-ltb}
 use Rattle.base_shared.specs.Choice.{pick}
 use Rattle.base_little.specs.Little.{little}
-use Rattle.ivf_file.specs.declared.FileRead.TheVariants.{Header, Refused}
+use Rattle.std.specs.Prelude.{Ok, Err}
 use Rattle.ivf_file.specs.File.{is_ivf, file_of, file_header_of}
 use Rattle.ivf_file.specs.Record.{data_length, data_end, record_at}
 use Rattle.ivf_file.proofs.Cases.{at_end, cut, whole}
@@ -133,7 +133,7 @@ module _ (f : List ℕ) (p m : ℕ) (inside : p + m ≤ length f) where
     unfolding rest_said file_said said_from file_of
     file_says = rw z (go (is_ivf f))
       where
-        go : (b : Bool) → pick b (opened ∷ said_from f 32) (said.no_file ∷ []) ≡ event_said (take m f) (file_turn (pick b (Header (file_header_of f)) Refused)).event ++ rest_said f (file_turn (pick b (Header (file_header_of f)) Refused)).stage (0 + (file_turn (pick b (Header (file_header_of f)) Refused)).used)
+        go : (b : Bool) → pick b (opened ∷ said_from f 32) (said.no_file ∷ []) ≡ event_said (take m f) (file_turn (pick b (Ok (file_header_of f)) (Err (record {})))).event ++ rest_said f (file_turn (pick b (Ok (file_header_of f)) (Err (record {})))).stage (0 + (file_turn (pick b (Ok (file_header_of f)) (Err (record {})))).used)
         go true = refl
         go false = refl
 

@@ -1,7 +1,7 @@
 -- A turn, as the code meets it.
 -- Assumes nothing.
 use Prim.Native.Nat.{ℕ, ◌+◌, ◌-◌, ◌<◌, ◌≤◌}
-use mathlib.Core.Path.{◌≡◌, refl, sym, ap, ◌∙◌}
+use mathlib.Core.Path.{◌≡◌, refl}
 use mathlib.Core.Bool.{Bool, true, false, and-false}
 use mathlib.Core.List.{List}
 use native.Mathlib.Omega.{arith}
@@ -16,7 +16,7 @@ use Rattle.ivf_arriving.specs.declared.Next.TheVariants as next
 use Rattle.ivf_arriving.specs.Next.{empty_by, short_by, data_by, next_record}
 use Rattle.ivf_walk.specs.declared.Stage.TheVariants.{Start, Records, Skip, Over}
 use Rattle.ivf_walk.specs.declared.Event.TheVariants.{More, TooLong, Cut}
-use Rattle.ivf_walk.specs.Turn.{takes, file_turn, start_turn, turn_by, skip_turn}
+use Rattle.ivf_walk.specs.Turn.{takes, file_turn, start_turn, skip_turn}
 
 module _ (s : List ℕ) where
   pub all_there : file_turn (file_of s) ≡ start_turn s true
@@ -44,9 +44,6 @@ module _ (left : ℕ) (s : List ℕ) where
     pub part_passed : takes More (length s) (Skip (left - length s)) ≡ skip_turn left s false
     unfolding skip_turn
     part_passed = rw (lt-leb _ _ h)
-
-pub turned : {n m : Next} (v : Next) → n ≡ m → n ≡ v → turn_by v ≡ turn_by m
-turned v e h = ap turn_by (sym h ∙ e)
 
 -- what a record that stands next takes is at hand, and more is asked for only where that is little
 abbrev pub AtHand : Bool → ℕ → Next → Type 0

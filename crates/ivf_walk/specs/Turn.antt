@@ -1,9 +1,9 @@
 -- One turn of a walk through a file, of which s is at hand.
 -- Assumes nothing.
-use Rattle.std.specs.Prelude.{ℕ, ◌+◌, ◌-◌, Bool, not, ◌&&◌, List, leb, ltb, length}
+use Rattle.std.specs.Prelude.{ℕ, ◌+◌, ◌-◌, Bool, not, ◌&&◌, Result, Ok, Err, List, leb, ltb, length}
 use Rattle.base_shared.specs.Choice.{pick}
-use Rattle.ivf_file.specs.declared.FileRead.{FileRead}
-use Rattle.ivf_file.specs.declared.FileRead.TheVariants as file
+use Rattle.ivf_file.specs.declared.IvfHeader.{IvfHeader}
+use Rattle.ivf_file.specs.declared.NotIvf.{NotIvf}
 use Rattle.ivf_file.specs.File.{header_bytes, file_of}
 use Rattle.ivf_arriving.specs.declared.Next.{Next}
 use Rattle.ivf_arriving.specs.declared.Next.TheVariants as next
@@ -18,9 +18,9 @@ use Rattle.ivf_walk.specs.declared.Turn.{Turn}
 abbrev pub takes : Event → ℕ → Stage → Turn
 takes event used stage = record { event = event; used = used; stage = stage }
 
-abbrev pub file_turn : FileRead → Turn
-file_turn (file.Header h) = takes Opened header_bytes Records
-file_turn file.Refused = takes NoFile 0 Over
+abbrev pub file_turn : Result IvfHeader NotIvf → Turn
+file_turn (Ok h) = takes Opened header_bytes Records
+file_turn (Err e) = takes NoFile 0 Over
 
 unfoldable pub start_turn : List ℕ → Bool → Turn
 start_turn s ended = pick (ltb (length s) header_bytes && not ended) (takes More 0 Start) (file_turn (file_of s))

@@ -6,7 +6,6 @@ ghost use Rattle.ivf_file.specs.File.{file_of};
 ghost use Rattle.ivf_walk.specs.Turn.{file_turn, start_turn, record_turn, skip_turn, turn_of};
 
 use ivf_arriving::Next;
-use ivf_file::FileRead;
 
 // How far the walk has come.
 #[derive(Clone, Copy)]
@@ -54,14 +53,13 @@ pub struct Turn {
 fn file_turn(s: &[u8]) -> Turn
     ensures { result ≡ file_turn (file_of s.now) }
 {
-    let file = ivf_file::parse_ivf_header(s);
-    match file {
-        FileRead::Header(_) => Turn {
+    match ivf_file::parse_ivf_header(s) {
+        Ok(_) => Turn {
             event: Event::Opened,
             used: 32,
             stage: Stage::Records,
         },
-        FileRead::Refused => Turn {
+        Err(_) => Turn {
             event: Event::NoFile,
             used: 0,
             stage: Stage::Over,
@@ -88,8 +86,7 @@ fn start_turn(s: &[u8], ended: bool) -> Turn
 fn record_turn(s: &[u8], ended: bool) -> Turn
     ensures { result ≡ record_turn s.now ended }
 {
-    let next = ivf_arriving::next_record(s, ended);
-    match next {
+    match ivf_arriving::next_record(s, ended) {
         Next::End => Turn {
             event: Event::End,
             used: 0,

@@ -10,19 +10,6 @@ use base_size::FrameSize;
 use base_types::Header;
 use segment_records::Segmentation;
 
-// A cast that is asked to fit where it stands needs the ranges of all fields before it.
-fn byte(n: u8) -> u32
-    ensures { result ≡ n }
-{
-    n as u32
-}
-
-fn short(n: u16) -> u32
-    ensures { result ≡ n }
-{
-    n as u32
-}
-
 // A header, group by group.
 
 pub fn color_row(
@@ -72,10 +59,10 @@ pub fn source_row(h: Header) -> [u32; 15]
         h.ref_frame_idx[0] as u32,
         h.ref_frame_idx[1] as u32,
         h.ref_frame_idx[2] as u32,
-        byte(h.ref_frame_sign_bias[0]),
-        byte(h.ref_frame_sign_bias[1]),
-        byte(h.ref_frame_sign_bias[2]),
-        byte(h.ref_frame_sign_bias[3]),
+        u32::from(h.ref_frame_sign_bias[0]),
+        u32::from(h.ref_frame_sign_bias[1]),
+        u32::from(h.ref_frame_sign_bias[2]),
+        u32::from(h.ref_frame_sign_bias[3]),
         h.allow_high_precision_mv as u32,
         u32::from(filter),
         h.refresh_frame_context as u32,
@@ -88,11 +75,11 @@ pub fn end_row(h: Header) -> [u32; 5]
     ensures { result ≡ end_row h }
 {
     [
-        byte(h.tile_cols_log2),
-        byte(h.tile_rows_log2),
+        u32::from(h.tile_cols_log2),
+        u32::from(h.tile_rows_log2),
         h.lossless as u32,
-        short(h.header_size_in_bytes),
-        short(h.uncompressed_header_size_in_bytes),
+        u32::from(h.header_size_in_bytes),
+        u32::from(h.uncompressed_header_size_in_bytes),
     ]
 }
 

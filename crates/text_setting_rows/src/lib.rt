@@ -19,7 +19,7 @@ use base_segmentation::SegmentationParams;
 fn lift_byte(n: i8) -> u32
     ensures { result ≡ lifted n }
 {
-    text_signed::lift(n as i16)
+    text_signed::lift(i16::from(n))
 }
 
 pub fn filter_row(lf: LoopFilterParams) -> [u32; 16]

@@ -3,4 +3,4 @@ use Rattle.text_record_rows.proofs.end_row.Goals as goal
 
 pub returns : goal.returns
 unfolding end_row
-returns c = rw (c.byte.ensures, c.byte-2.ensures, c.short.ensures, c.short-2.ensures)
+returns c = rw (c.from.ensures, c.from-2.ensures, c.from-3.ensures, c.from-4.ensures)
