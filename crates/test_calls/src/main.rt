@@ -14,93 +14,98 @@ use base_enums::{
     BitDepth, ColorRange, ColorSpace, FrameType, InterpolationFilter, Profile, ReferenceFrameType,
 };
 use base_parts::{front, rest};
-use base_stream::{Ending, Filled, Room, Streams, fill_front};
-use ivf_file::Record;
+use base_stream::{Ending, Streams, Unfilled};
+use std::io::Error;
 use test_values::{byte_at, flag_at};
 
-fn put_number(out: &mut [u8], at: usize, n: u64) -> usize {
-    let at = base_bytes::put(out, at, b" ");
-    text_numeral::put_number(out, at, n)
+// The text that isn't written yet, up to `at`.
+#[derive(Drop)]
+struct Text<'a> {
+    out: &'a mut [u8],
+    at: usize,
 }
 
-fn put_none(out: &mut [u8], at: usize) -> usize {
-    base_bytes::put(out, at, b" -")
-}
+impl Text<'_> {
+    fn put(&mut self, bytes: &[u8]) {
+        self.at = base_bytes::put(self.out, self.at, bytes);
+    }
 
-fn put_line_end(out: &mut [u8], at: usize) -> usize {
-    base_bytes::put(out, at, b"\n")
+    fn put_number(&mut self, n: u64) {
+        self.put(b" ");
+        self.at = text_numeral::put_number(self.out, self.at, n);
+    }
+
+    // Writes where there may be no room for the next line.
+    fn make_room(&mut self, streams: &mut Streams) -> Result<(), Error> {
+        let at = self.at;
+        self.at = streams.make_room(self.out, at, ROOM)?;
+        Ok(())
+    }
+
+    // Writes what is left to be written.
+    fn finish(self, streams: &mut Streams) -> Ending {
+        let at = self.at;
+        streams.finish(self.out, at, Ending::Done)
+    }
+
+    // The number of a variant, if there is one.
+    fn put_variant(&mut self, number: Option<u64>) {
+        match number {
+            Some(n) => self.put_number(n),
+            None => self.put(b" -"),
+        }
+    }
 }
 
 // The enums.
 
-fn try_interpolation_filter(out: &mut [u8], at: usize, n: u32) -> usize {
-    let answer = InterpolationFilter::try_from(n);
-    match answer {
-        Ok(v) => put_number(out, at, u32::from(v) as u64),
-        Err(_) => put_none(out, at),
+fn interpolation_filter(n: u32) -> Option<u64> {
+    match InterpolationFilter::try_from(n) {
+        Ok(v) => Some(u32::from(v) as u64),
+        Err(_) => None,
     }
 }
 
-fn try_reference_frame_type(out: &mut [u8], at: usize, n: u32) -> usize {
-    let answer = ReferenceFrameType::try_from(n);
-    match answer {
-        Ok(v) => put_number(out, at, u32::from(v) as u64),
-        Err(_) => put_none(out, at),
+fn reference_frame_type(n: u32) -> Option<u64> {
+    match ReferenceFrameType::try_from(n) {
+        Ok(v) => Some(u32::from(v) as u64),
+        Err(_) => None,
     }
 }
 
-fn try_frame_type(out: &mut [u8], at: usize, n: u8) -> usize {
-    let answer = FrameType::try_from(n);
-    match answer {
-        Ok(v) => put_number(out, at, u8::from(v) as u64),
-        Err(_) => put_none(out, at),
+fn frame_type(n: u8) -> Option<u64> {
+    match FrameType::try_from(n) {
+        Ok(v) => Some(u8::from(v) as u64),
+        Err(_) => None,
     }
 }
 
-fn try_profile(out: &mut [u8], at: usize, n: u32) -> usize {
-    let answer = Profile::try_from(n);
-    match answer {
-        Ok(v) => put_number(out, at, u32::from(v) as u64),
-        Err(_) => put_none(out, at),
+fn profile(n: u32) -> Option<u64> {
+    match Profile::try_from(n) {
+        Ok(v) => Some(u32::from(v) as u64),
+        Err(_) => None,
     }
 }
 
-fn try_bit_depth(out: &mut [u8], at: usize, n: u32) -> usize {
-    let answer = BitDepth::try_from(n);
-    match answer {
-        Ok(v) => put_number(out, at, u32::from(v) as u64),
-        Err(_) => put_none(out, at),
+fn bit_depth(n: u32) -> Option<u64> {
+    match BitDepth::try_from(n) {
+        Ok(v) => Some(u32::from(v) as u64),
+        Err(_) => None,
     }
 }
 
-fn try_color_space(out: &mut [u8], at: usize, n: u32) -> usize {
-    let answer = ColorSpace::try_from(n);
-    match answer {
-        Ok(v) => put_number(out, at, u32::from(v) as u64),
-        Err(_) => put_none(out, at),
+fn color_space(n: u32) -> Option<u64> {
+    match ColorSpace::try_from(n) {
+        Ok(v) => Some(u32::from(v) as u64),
+        Err(_) => None,
     }
 }
 
-fn try_color_range(out: &mut [u8], at: usize, n: u32) -> usize {
-    let answer = ColorRange::try_from(n);
-    match answer {
-        Ok(v) => put_number(out, at, u32::from(v) as u64),
-        Err(_) => put_none(out, at),
+fn color_range(n: u32) -> Option<u64> {
+    match ColorRange::try_from(n) {
+        Ok(v) => Some(u32::from(v) as u64),
+        Err(_) => None,
     }
-}
-
-// A frame type's number is a byte.
-fn try_kinds(out: &mut [u8], at: usize, n: u32) -> usize {
-    let at = try_interpolation_filter(out, at, n);
-    let at = try_reference_frame_type(out, at, n);
-    try_frame_type(out, at, (n % 256) as u8)
-}
-
-fn try_colors(out: &mut [u8], at: usize, n: u32) -> usize {
-    let at = try_profile(out, at, n);
-    let at = try_bit_depth(out, at, n);
-    let at = try_color_space(out, at, n);
-    try_color_range(out, at, n)
 }
 
 // What is asked.
@@ -112,143 +117,85 @@ fn number_at(s: &[u8], at: usize) -> u64 {
     n
 }
 
-fn tell_number(out: &mut [u8], at: usize, s: &[u8]) -> usize {
+fn tell_number(text: &mut Text, s: &[u8]) {
     let n = (number_at(s, 1) % 4294967296) as u32;
-    let at = try_kinds(out, at, n);
-    let at = try_colors(out, at, n);
-    put_line_end(out, at)
-}
-
-fn put_part(out: &mut [u8], at: usize, part: &[u8]) -> usize {
-    let at = put_number(out, at, part.len() as u64);
-    let at = base_bytes::put(out, at, b" ");
-    let at = base_bytes::put(out, at, part);
-    put_line_end(out, at)
-}
-
-fn show<'a>(
-    out: &mut [u8],
-    at: usize,
-    new: &'a [u8],
-    last_good: &'a [u8],
-    yes: bool,
-    offset: usize,
-    size: usize,
-) -> usize {
-    put_part(
-        out,
-        at,
-        chunk_choice::choose_picture(new, last_good, yes, offset, size),
-    )
+    text.put_variant(interpolation_filter(n));
+    text.put_variant(reference_frame_type(n));
+    // A frame type's number is a byte.
+    text.put_variant(frame_type((n % 256) as u8));
+    text.put_variant(profile(n));
+    text.put_variant(bit_depth(n));
+    text.put_variant(color_space(n));
+    text.put_variant(color_range(n));
+    text.put(b"\n");
 }
 
 // The two chunks stand one after the other, the first of so many bytes.
-fn tell_choice(out: &mut [u8], at: usize, s: &[u8], yes: bool) -> usize {
+fn tell_choice(text: &mut Text, s: &[u8]) {
+    let yes = flag_at(s, 1);
     let offset = number_at(s, 2) as usize;
     let size = number_at(s, 10) as usize;
     let length = number_at(s, 18) as usize;
     let chunks = rest(s, 26);
-    show(
-        out,
-        at,
-        front(chunks, length),
-        rest(chunks, length),
-        yes,
-        offset,
-        size,
-    )
+    let new = front(chunks, length);
+    let last_good = rest(chunks, length);
+    let part = chunk_choice::choose_picture(new, last_good, yes, offset, size);
+    text.put_number(part.len() as u64);
+    text.put(b" ");
+    text.put(part);
+    text.put(b"\n");
 }
 
-fn put_record(out: &mut [u8], at: usize, record: Record) -> usize {
-    let at = put_number(out, at, record.length as u64);
-    let at = put_number(out, at, record.time);
-    let at = put_number(out, at, record.data as u64);
-    let at = put_number(out, at, record.next as u64);
-    put_line_end(out, at)
-}
-
-fn tell_record(out: &mut [u8], at: usize, s: &[u8]) -> usize {
-    let read = ivf_file::read_record(rest(s, 9), number_at(s, 1) as usize);
-    match read {
-        Ok(Some(record)) => put_record(out, at, record),
-        Ok(None) => base_bytes::put(out, at, b" end\n"),
-        Err(_) => base_bytes::put(out, at, b" cut\n"),
+fn tell_record(text: &mut Text, s: &[u8]) {
+    match ivf_file::read_record(rest(s, 9), number_at(s, 1) as usize) {
+        Ok(Some(record)) => {
+            text.put_number(record.length as u64);
+            text.put_number(record.time);
+            text.put_number(record.data as u64);
+            text.put_number(record.next as u64);
+            text.put(b"\n");
+        }
+        Ok(None) => text.put(b" end\n"),
+        Err(_) => text.put(b" cut\n"),
     }
 }
 
-fn tell(out: &mut [u8], at: usize, s: &[u8]) -> usize {
+fn tell(text: &mut Text, s: &[u8]) {
     match byte_at(s, 0) {
-        0 => tell_number(out, at, s),
-        1 => tell_choice(out, at, s, flag_at(s, 1)),
-        2 => tell_record(out, at, s),
-        _ => base_bytes::put(out, at, b" ?\n"),
+        0 => tell_number(text, s),
+        1 => tell_choice(text, s),
+        2 => tell_record(text, s),
+        _ => text.put(b" ?\n"),
     }
 }
 
-// The input.
-
-// The next record: so many bytes, at the buffer's start. One of no bytes ends the series.
-#[derive(Clone, Copy)]
-enum Asked {
-    Bytes(usize),
-    End,
-    Unread,
-}
-
-fn stopped(filled: Filled) -> Asked {
-    match filled {
-        Filled::Failed(_) => Asked::Unread,
-        _ => Asked::End,
-    }
-}
-
-fn read_asked(streams: &mut Streams, buf: &mut [u8]) -> Asked {
-    let mut size = [0u8; 4];
-    let filled = base_stream::fill(streams, &mut size, 0);
-    let Filled::Full = filled else {
-        return stopped(filled);
-    };
-    let Ok(n) = base_little::read_little(&size, 0, 4) else {
-        return Asked::End;
-    };
-    let filled = fill_front(streams, buf, n as usize);
-    match filled {
-        Filled::Full => of_size(n as usize),
-        _ => stopped(filled),
-    }
-}
-
-fn of_size(n: usize) -> Asked {
-    if n == 0 { Asked::End } else { Asked::Bytes(n) }
+// Reads a record to the buffer's front: so many bytes.
+fn read_record(streams: &mut Streams, buf: &mut [u8]) -> Result<usize, Unfilled> {
+    let mut length = [0u8; 4];
+    streams.fill(&mut length, 0)?;
+    let n = u32::from_le_bytes(length) as usize;
+    streams.fill_front(buf, n)?;
+    Ok(n)
 }
 
 // A line takes less: at most a record's bytes and six numbers.
 const ROOM: usize = 131072;
 
-fn end(streams: &mut Streams, out: &[u8], at: usize, asked: Asked) -> Ending {
-    match asked {
-        Asked::Unread => Ending::Unread,
-        _ => base_stream::finish(streams, out, at, Ending::Done),
-    }
-}
-
-// Nothing says that the input ends, so the records are counted down.
+// Nothing says that the input ends, so the records are counted. One of no bytes ends the series.
 fn tell_all(streams: &mut Streams, buf: &mut [u8], out: &mut [u8]) -> Ending {
-    let mut at = 0;
-    let mut left = u64::MAX;
-    while left > 0 {
-        let asked = read_asked(streams, buf);
-        let Asked::Bytes(n) = asked else {
-            return end(streams, out, at, asked);
+    let mut text = Text { out, at: 0 };
+    for _ in 0..u64::MAX {
+        let n = match read_record(streams, buf) {
+            Err(Unfilled::Failed(_, why)) => return Ending::Unread(why),
+            Ok(0) | Err(Unfilled::Ended(_)) => break,
+            Ok(n) => n,
         };
-        let room = base_stream::make_room(streams, out, at, ROOM);
-        let Room::At(next) = room else {
-            return Ending::Unwritten;
-        };
-        at = tell(out, next, front(buf, n));
-        left -= 1;
+        if let Err(why) = text.make_room(streams) {
+            return Ending::Unwritten(why);
+        }
+        tell(&mut text, front(buf, n));
     }
-    Ending::Done
+    text.finish(streams)
 }
 
 fn out_buffer() -> [u8; 262144]

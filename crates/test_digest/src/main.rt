@@ -5,184 +5,116 @@
 ghost use Rattle.std.specs.Prelude.{◌≤◌, ◌≡◌, length};
 
 use base_enums::{BitDepth, ColorRange, ColorSpace};
+use base_input::{Behind, Input};
 use base_loop_filter::LoopFilterParams;
 use base_parts::{front, rest};
 use base_quantization::QuantizationParams;
 use base_segmentation::SegmentationParams;
 use base_size::FrameSize;
-use base_stream::{Ending, Filled, Room, Streams};
+use base_stream::{Ending, Streams};
 use base_types::{Header, MAX_FRAMES_IN_SUPERFRAME, ReaderState};
 use chunk_answer::{Answer, ChunkRead};
 use segment_records::Segmentation;
+use std::io::Error;
 use test_values::{byte_at, flag_at, signed_byte_at};
 
-// A digest takes in numbers one after the other; each function answers the digest that has taken in its value too.
-
-fn mix(h: u32, x: u32) -> u32 {
-    ((h as u64 * 1000003 + x as u64) % 2147483647) as u32
-}
-
-// A place in a chunk or a size, which are never over 65,536.
-fn place(h: u32, n: usize) -> u32 {
-    mix(h, (n % 4294967296) as u32)
-}
-
-fn row(h: u32, s: &[u32]) -> u32 {
-    let mut next = h;
-    for i in 0..s.len() {
-        next = mix(next, s[i]);
-    }
-    next
-}
-
-// The records, row by row.
-
-fn colors(h: u32, depth: BitDepth, x: bool, y: bool, space: ColorSpace, range: ColorRange) -> u32 {
-    let s = text_record_rows::color_row(depth, x, y, space, range);
-    row(h, &s)
-}
-
-fn loop_filter(h: u32, lf: LoopFilterParams) -> u32 {
-    let s = text_setting_rows::filter_row(lf);
-    row(h, &s)
-}
-
-fn quantization(h: u32, q: QuantizationParams) -> u32 {
-    let s = text_setting_rows::quantization_row(q);
-    row(h, &s)
-}
-
-fn feature_flags(h: u32, seg: SegmentationParams) -> u32 {
-    let enabled = seg.feature_enabled;
-    let s = text_setting_rows::flag_row(enabled);
-    row(h, &s)
-}
-
-fn feature_data(h: u32, seg: SegmentationParams) -> u32 {
-    let data = seg.feature_data;
-    let s = text_setting_rows::data_row(data);
-    row(h, &s)
-}
-
-fn segmentation(h: u32, seg: SegmentationParams) -> u32 {
-    let s = text_setting_rows::segmentation_row(seg);
-    feature_data(feature_flags(row(h, &s), seg), seg)
-}
-
-fn header_colors(h: u32, header: Header) -> u32 {
-    let profile = header.profile;
-    let depth = header.bit_depth;
-    let space = header.color_space;
-    let range = header.color_range;
-    let h = mix(h, u32::from(profile));
-    colors(
-        h,
-        depth,
-        header.subsampling_x,
-        header.subsampling_y,
-        space,
-        range,
-    )
-}
-
-fn header_picture(h: u32, header: Header) -> u32 {
-    let s = text_record_rows::picture_row(header);
-    row(h, &s)
-}
-
-fn header_sources(h: u32, header: Header) -> u32 {
-    let s = text_record_rows::source_row(header);
-    row(h, &s)
-}
-
-fn header_end(h: u32, header: Header) -> u32 {
-    let s = text_record_rows::end_row(header);
-    row(h, &s)
-}
-
-fn whole_header(h: u32, header: Header) -> u32 {
-    let h = header_colors(h, header);
-    let h = header_picture(h, header);
-    let h = header_sources(h, header);
-    let h = loop_filter(h, header.lf);
-    let h = quantization(h, header.quant);
-    let h = segmentation(h, header.seg);
-    header_end(h, header)
-}
-
-fn slots(h: u32, sizes: [FrameSize; ReaderState::REF_FRAMES]) -> u32 {
-    let s = text_record_rows::slot_row(sizes);
-    row(h, &s)
-}
-
-fn state_digest(st: ReaderState) -> u32 {
-    let depth = st.bit_depth;
-    let space = st.color_space;
-    let range = st.color_range;
-    let h = colors(0, depth, st.subsampling_x, st.subsampling_y, space, range);
-    let h = loop_filter(h, st.lf);
-    let h = segmentation(h, st.seg);
-    let sizes = st.reference_frame_sz;
-    slots(h, sizes)
-}
-
-fn segment(h: u32, record: Segmentation) -> u32 {
-    let s = text_record_rows::segment_row(record);
-    row(h, &s)
-}
-
-fn segments(h: u32, s: [Segmentation; 8]) -> u32 {
-    let mut next = h;
-    for i in 0..8usize {
-        next = segment(next, s[i]);
-    }
-    next
-}
-
-// The frames of a chunk.
-
-// The digest of some frames, and the segment records after them.
+// A digest takes in numbers one after the other.
 #[derive(Clone, Copy)]
-struct Fold {
-    digest: u32,
-    segments: [Segmentation; 8],
-}
+struct Digest(u32);
 
-// With one frame more.
-fn with_frame(at: usize, size: usize, header: Header, before: Fold) -> Fold {
-    let old = before.segments;
-    let new = Segmentation::update_segmentation(old, header);
-    let h = place(place(before.digest, at), size);
-    let h = whole_header(h, header);
-    Fold {
-        digest: segments(h, new),
-        segments: new,
+impl Digest {
+    fn take(&mut self, x: u32) {
+        self.0 = ((self.0 as u64 * 1000003 + x as u64) % 2147483647) as u32;
+    }
+
+    // A place in a chunk or a size, which are never over 65,536.
+    fn take_place(&mut self, n: usize) {
+        self.take((n % 4294967296) as u32);
+    }
+
+    fn take_row(&mut self, row: &[u32]) {
+        for x in row {
+            self.take(*x);
+        }
+    }
+
+    // The records, row by row.
+
+    fn take_loop_filter(&mut self, lf: LoopFilterParams) {
+        self.take_row(&text_setting_rows::filter_row(lf));
+    }
+
+    fn take_quantization(&mut self, q: QuantizationParams) {
+        self.take_row(&text_setting_rows::quantization_row(q));
+    }
+
+    fn take_segmentation(&mut self, seg: SegmentationParams) {
+        self.take_row(&text_setting_rows::segmentation_row(seg));
+        self.take_row(&text_setting_rows::flag_row(seg.feature_enabled));
+        self.take_row(&text_setting_rows::data_row(seg.feature_data));
+    }
+
+    fn take_colors(
+        &mut self,
+        depth: BitDepth,
+        x: bool,
+        y: bool,
+        space: ColorSpace,
+        range: ColorRange,
+    ) {
+        self.take_row(&text_record_rows::color_row(depth, x, y, space, range));
+    }
+
+    fn take_header(&mut self, h: Header) {
+        self.take(u32::from(h.profile));
+        self.take_colors(
+            h.bit_depth,
+            h.subsampling_x,
+            h.subsampling_y,
+            h.color_space,
+            h.color_range,
+        );
+        self.take_row(&text_record_rows::picture_row(h));
+        self.take_row(&text_record_rows::source_row(h));
+        self.take_loop_filter(h.lf);
+        self.take_quantization(h.quant);
+        self.take_segmentation(h.seg);
+        self.take_row(&text_record_rows::end_row(h));
+    }
+
+    fn take_state(&mut self, st: ReaderState) {
+        self.take_colors(
+            st.bit_depth,
+            st.subsampling_x,
+            st.subsampling_y,
+            st.color_space,
+            st.color_range,
+        );
+        self.take_loop_filter(st.lf);
+        self.take_segmentation(st.seg);
+        self.take_row(&text_record_rows::slot_row(st.reference_frame_sz));
+    }
+
+    fn take_segments(&mut self, segments: &[Segmentation; 8]) {
+        for record in segments {
+            self.take_row(&text_record_rows::segment_row(*record));
+        }
     }
 }
 
-// How many frames there are, never more than eight.
-fn frames_of(answer: Answer) -> usize
-    ensures { result ≤ 8 }
-{
-    let Answer::Frames(n) = answer else {
-        return 0;
-    };
-    if n < MAX_FRAMES_IN_SUPERFRAME {
-        n
-    } else {
-        MAX_FRAMES_IN_SUPERFRAME
-    }
+fn state_digest(state: ReaderState) -> Digest {
+    let mut digest = Digest(0);
+    digest.take_state(state);
+    digest
+}
+
+fn segments_digest(segments: &[Segmentation; 8]) -> Digest {
+    let mut digest = Digest(0);
+    digest.take_segments(segments);
+    digest
 }
 
 // The line.
-
-// How many frames, or which one is at fault.
-fn which(answer: Answer) -> usize {
-    match answer {
-        Answer::Frames(n) => n,
-        _ => answer.frame(),
-    }
-}
 
 // How many digits a number has.
 fn places(n: u64) -> usize
@@ -198,11 +130,44 @@ fn places(n: u64) -> usize
     20
 }
 
-fn digit(n: u64) -> u8 {
-    (48 + n % 10) as u8
+// The lines that aren't written yet, up to `at`.
+#[derive(Drop)]
+struct Lines<'a> {
+    out: &'a mut [u8],
+    at: usize,
 }
 
-// The number's digits and a byte after them. text_numeral::put_number would copy them once more.
+// No line is longer.
+const LONGEST_LINE: usize = 64;
+
+impl Lines<'_> {
+    // Writes where there may be no room for the next line.
+    fn make_room(&mut self, streams: &mut Streams) -> Result<(), Error> {
+        let at = self.at;
+        self.at = streams.make_room(self.out, at, LONGEST_LINE)?;
+        Ok(())
+    }
+
+    // Writes what is left to be written.
+    fn finish(self, streams: &mut Streams) -> Ending {
+        let at = self.at;
+        streams.finish(self.out, at, Ending::Done)
+    }
+
+    // The number's digits and a byte after them. text_numeral::put_number would copy them once more.
+    fn put(&mut self, n: u64, end: u8) {
+        self.at = put(self.out, self.at, n, end);
+    }
+
+    fn put_line(&mut self, told: Told) {
+        self.put(told.answer.number() as u64, b' ');
+        self.put(which(told.answer) as u64, b' ');
+        self.put(told.frames.0 as u64, b' ');
+        self.put(told.segments.0 as u64, b' ');
+        self.put(told.state.0 as u64, b'\n');
+    }
+}
+
 fn put(out: &mut [u8], at: usize, n: u64, end: u8) -> usize {
     let k = places(n);
     if at > out.len() {
@@ -212,25 +177,20 @@ fn put(out: &mut [u8], at: usize, n: u64, end: u8) -> usize {
         return at;
     }
     let mut left = n;
-    for i in 0..k {
-        out[at + (k - 1 - i)] = digit(left);
+    for i in (0..k).rev() {
+        out[at + i] = (48 + left % 10) as u8;
         left = left / 10;
     }
     out[at + k] = end;
     at + k + 1
 }
 
-fn put_answer(out: &mut [u8], at: usize, answer: Answer) -> usize {
-    let at = put(out, at, answer.number() as u64, b' ');
-    put(out, at, which(answer) as u64, b' ')
-}
-
-fn put_line(out: &mut [u8], at: usize, told: Told) -> usize {
-    let answer = told.answer;
-    let at = put_answer(out, at, answer);
-    let at = put(out, at, told.frames as u64, b' ');
-    let at = put(out, at, told.segments as u64, b' ');
-    put(out, at, told.state as u64, b'\n')
+// How many frames, or which one is at fault.
+fn which(answer: Answer) -> usize {
+    match answer {
+        Answer::Frames(n) => n,
+        _ => answer.frame(),
+    }
 }
 
 // The answers.
@@ -242,10 +202,12 @@ struct Series {
     segments: [Segmentation; 8],
 }
 
-fn fresh() -> Series {
-    Series {
-        state: ReaderState::default(),
-        segments: [Segmentation::default(); 8],
+impl Series {
+    fn fresh() -> Series {
+        Series {
+            state: ReaderState::default(),
+            segments: [Segmentation::default(); 8],
+        }
     }
 }
 
@@ -259,13 +221,6 @@ enum Work {
     Steps(u64),
 }
 
-fn parses(work: Work) -> u64 {
-    match work {
-        Work::Parses(n) => n,
-        _ => 1,
-    }
-}
-
 // The records after n steps.
 fn stepped(header: Header, old: [Segmentation; 8], n: u64) -> [Segmentation; 8] {
     let mut new = old;
@@ -276,99 +231,95 @@ fn stepped(header: Header, old: [Segmentation; 8], n: u64) -> [Segmentation; 8] 
     new
 }
 
-// The records of which the line has the digest.
-fn last_records(
-    work: Work,
-    header: Header,
-    old: [Segmentation; 8],
-    new: [Segmentation; 8],
-) -> [Segmentation; 8] {
-    match work {
-        Work::Steps(n) => stepped(header, old, n),
-        _ => new,
-    }
-}
-
 // What the line of a chunk says, and the state and the records after it.
 #[derive(Clone, Copy)]
 struct Told {
     answer: Answer,
-    frames: u32,
-    segments: u32,
-    state: u32,
+    frames: Digest,
+    segments: Digest,
+    state: Digest,
     after: Series,
 }
 
-fn tell(read: ChunkRead, work: Work, old: [Segmentation; 8]) -> Told {
-    let answer = read.answer;
-    let mut fold = Fold {
-        digest: 0,
-        segments: old,
-    };
-    let frames = frames_of(answer);
-    for i in 0..frames {
-        let header = read.headers[i];
-        fold = with_frame(read.at[i], read.size[i], header, fold);
+// How many frames there are, never more than eight.
+fn frames_of(answer: Answer) -> usize
+    ensures { result ≤ 8 }
+{
+    match answer {
+        Answer::Frames(n) => n.min(MAX_FRAMES_IN_SUPERFRAME),
+        _ => 0,
     }
-    let new = fold.segments;
-    let last = last_records(work, read.headers[0], old, new);
-    let state = read.state;
-    let after = Series {
-        state,
-        segments: new,
+}
+
+fn tell(read: ChunkRead, work: Work, old: [Segmentation; 8]) -> Told {
+    let mut digest = Digest(0);
+    let mut new = old;
+    for i in 0..frames_of(read.answer) {
+        let header = read.headers[i];
+        let after = Segmentation::update_segmentation(new, header);
+        new = after;
+        digest.take_place(read.at[i]);
+        digest.take_place(read.size[i]);
+        digest.take_header(header);
+        digest.take_segments(&new);
+    }
+    // The records of which the line has the digest.
+    let last = match work {
+        Work::Steps(n) => stepped(read.headers[0], old, n),
+        _ => new,
     };
     Told {
-        answer,
-        frames: fold.digest,
-        segments: segments(0, last),
-        state: state_digest(state),
-        after,
+        answer: read.answer,
+        frames: digest,
+        segments: segments_digest(&last),
+        state: state_digest(read.state),
+        after: Series {
+            state: read.state,
+            segments: new,
+        },
     }
 }
 
 fn tell_nothing(series: Series) -> Told {
-    let state = series.state;
-    let old = series.segments;
     Told {
         answer: Answer::Frames(0),
-        frames: 0,
-        segments: segments(0, old),
-        state: state_digest(state),
+        frames: Digest(0),
+        segments: segments_digest(&series.segments),
+        state: state_digest(series.state),
         after: series,
     }
 }
 
 // The last parse is told. Each goes from the state that the one before it left, so that none can be left out.
 fn tell_last(s: &[u8], work: Work, series: Series) -> Told {
-    let old = series.segments;
+    let parses = match work {
+        Work::Parses(n) => n,
+        _ => 1,
+    };
     let mut state = series.state;
-    let mut left = parses(work);
-    while left > 0 {
+    for left in (0..parses).rev() {
         let read = chunk_parser::parse_chunk(s, state);
-        if left == 1 {
-            return tell(read, work, old);
+        if left == 0 {
+            return tell(read, work, series.segments);
         }
-        let after = read.state;
-        state = after;
-        left -= 1;
+        state = read.state;
     }
     tell_nothing(series)
 }
 
-// The state that 234 bytes spell.
-
-fn number_at(s: &[u8], at: usize) -> u32 {
-    let Ok(n) = base_little::read_little(s, at, 4) else {
-        return 0;
-    };
-    (n % 4294967296) as u32
+// A number of four bytes, low byte first.
+fn number_at(s: &[u8], at: usize) -> Option<u32> {
+    let bytes = rest(s, at).first_chunk::<4>()?;
+    Some(u32::from_le_bytes(*bytes))
 }
+
+// The state that 234 bytes spell.
 
 fn size_at(s: &[u8], at: usize) -> FrameSize {
     let b = rest(s, at);
     FrameSize {
-        width: number_at(b, 0),
-        height: number_at(b, 4),
+        width: number_at(b, 0).unwrap_or(0),
+        height: number_at(b, 4).unwrap_or(0),
     }
 }
 
@@ -453,308 +404,105 @@ fn state_of(s: &[u8]) -> ReaderState {
 // The records of the input.
 
 #[derive(Clone, Copy)]
-enum Record {
+enum Record<'a> {
     Fresh,
-    // A chunk: its place from the record's start, its size, and what is done with it.
-    Chunk(usize, usize, Work),
-    State,
-    End,
+    Chunk(&'a [u8], Work),
+    // The state that these bytes spell.
+    State(&'a [u8]),
 }
 
 const LONGEST_CHUNK: usize = 65536;
 
-// A chunk at a place, with its length at another.
-fn chunk_at(s: &[u8], length_at: usize, at: usize, work: Work) -> Record {
-    let Ok(n) = base_little::read_little(s, length_at, 4) else {
-        return Record::End;
-    };
-    let size = n as usize;
-    if size > LONGEST_CHUNK {
-        return Record::End;
-    }
-    if size > rest(s, at).len() {
-        return Record::End;
-    }
-    Record::Chunk(at, size, work)
-}
-
-fn parses_at(s: &[u8]) -> Record {
-    let Ok(n) = base_little::read_little(s, 1, 4) else {
-        return Record::End;
-    };
-    chunk_at(s, 5, 9, Work::Parses(n))
-}
-
-fn steps_at(s: &[u8]) -> Record {
-    let Ok(n) = base_little::read_little(s, 1, 4) else {
-        return Record::End;
-    };
-    chunk_at(s, 5, 9, Work::Steps(n))
-}
-
-fn state_at(s: &[u8]) -> Record {
-    if s.len() < 235 {
-        Record::End
-    } else {
-        Record::State
-    }
-}
-
-// The record at the start of what is at hand.
-fn next_record(s: &[u8]) -> Record {
-    if s.len() == 0 {
-        return Record::End;
-    }
-    match s[0] {
-        0 => Record::Fresh,
-        1 => chunk_at(s, 1, 5, Work::Answer),
-        3 => state_at(s),
-        4 => parses_at(s),
-        5 => steps_at(s),
-        _ => Record::End,
-    }
-}
-
-// What is read and not used yet lies in the input buffer from `start` to `end`, and the lines that are not written
-// yet at the front of the output buffer, up to `at`.
-#[derive(Clone, Copy)]
-struct Run {
-    start: usize,
-    end: usize,
-    // Nothing follows it.
-    ended: bool,
-    at: usize,
-    going: bool,
-    unread: bool,
-    unwritten: bool,
-}
-
-// The place n bytes on, which is never past the end.
-fn forward(at: usize, end: usize, n: usize) -> usize {
-    if at > end {
-        return end;
-    }
-    if n > end - at {
-        return end;
-    }
-    at + n
-}
-
-impl Run {
-    fn new() -> Run {
-        Run {
-            start: 0,
-            end: 0,
-            ended: false,
-            at: 0,
-            going: true,
-            unread: false,
-            unwritten: false,
-        }
-    }
-
-    fn at_hand(self) -> usize {
-        let start = self.start;
-        let end = self.end;
-        if start < end { end - start } else { 0 }
-    }
-
-    // So many bytes before a record's data are passed, and the data.
-    fn passed(mut self, head: usize, size: usize) -> Run {
-        self.start = forward(forward(self.start, self.end, head), self.end, size);
-        self
-    }
-
-    fn written(mut self, at: usize) -> Run {
-        self.at = at;
-        self
-    }
-
-    fn stopped(mut self) -> Run {
-        self.going = false;
-        self
-    }
-
-    // The input lies at the buffer's front, up to `end`.
-    fn filled(mut self, end: usize, ended: bool) -> Run {
-        self.start = 0;
-        self.end = end;
-        self.ended = ended;
-        self
-    }
-
-    fn unread(mut self) -> Run {
-        self.going = false;
-        self.unread = true;
-        self
-    }
-
-    fn unwritten(mut self) -> Run {
-        self.going = false;
-        self.unwritten = true;
-        self
-    }
-}
-
-// Fills the buffer.
-fn refilled(streams: &mut Streams, input: &mut [u8], run: Run) -> Run {
-    let n = base_buffer::to_front(input, run.start, run.end);
-    let filled = base_stream::fill(streams, input, n);
-    match filled {
-        Filled::Full => run.filled(input.len(), false),
-        Filled::Ended(end) => run.filled(end, true),
-        Filled::Failed(_) => run.unread(),
-    }
-}
-
 // No record is longer.
 const LONGEST_RECORD: usize = 9 + LONGEST_CHUNK;
 
-fn filled(streams: &mut Streams, input: &mut [u8], run: Run) -> Run {
-    if run.ended {
-        return run;
+const STATE: usize = 234;
+
+// A chunk behind its length, which stands at a place.
+fn chunk_at(s: &[u8], at: usize) -> Option<&[u8]> {
+    let size = number_at(s, at)? as usize;
+    if size > LONGEST_CHUNK {
+        return None;
     }
-    if run.at_hand() >= LONGEST_RECORD {
-        return run;
+    let behind = rest(rest(s, at), 4);
+    if size > behind.len() {
+        return None;
     }
-    refilled(streams, input, run)
+    Some(front(behind, size))
 }
 
-// No line is longer.
-const LONGEST_LINE: usize = 64;
-
-// Writes where there may be no room for the next line.
-fn flushed(streams: &mut Streams, out: &[u8], run: Run) -> Run {
-    let room = base_stream::make_room(streams, out, run.at, LONGEST_LINE);
-    match room {
-        Room::At(at) => run.written(at),
-        Room::Failed => run.unwritten(),
-    }
-}
-
-fn unused(input: &[u8], run: Run) -> &[u8] {
-    let start = run.start;
-    let end = run.end;
-    if end > input.len() {
-        return input;
-    }
-    if start > end {
-        return input;
-    }
-    &input[start..end]
-}
-
-// After a turn.
-#[derive(Clone, Copy)]
-struct After {
-    run: Run,
-    series: Series,
-}
-
-// What is remembered after a chunk.
-fn kept(work: Work, told: Told, series: Series) -> Series {
-    let after = told.after;
-    match work {
-        Work::Answer => after,
-        _ => series,
+// The record at the start of what is at hand, none where it isn't there whole.
+fn next_record(s: &[u8]) -> Option<Record<'_>> {
+    match byte_at(s, 0) {
+        0 => Some(Record::Fresh),
+        1 => Some(Record::Chunk(chunk_at(s, 1)?, Work::Answer)),
+        3 => Some(Record::State(rest(s, 1).get(..STATE)?)),
+        4 => Some(Record::Chunk(chunk_at(s, 5)?, Work::Parses(number_at(s, 1)? as u64))),
+        5 => Some(Record::Chunk(chunk_at(s, 5)?, Work::Steps(number_at(s, 1)? as u64))),
+        _ => None,
     }
 }
 
-fn answer_chunk(s: &[u8], work: Work, out: &mut [u8], run: Run, series: Series) -> After {
-    let told = tell_last(s, work, series);
-    let at = put_line(out, run.at, told);
-    After {
-        run: run.written(at),
-        series: kept(work, told, series),
+impl Record<'_> {
+    fn length(self) -> usize {
+        match self {
+            Record::Fresh => 1,
+            Record::Chunk(s, Work::Answer) => s.len().saturating_add(5),
+            Record::Chunk(s, _) => s.len().saturating_add(9),
+            Record::State(_) => 1 + STATE,
+        }
     }
 }
 
-fn with_state(state: ReaderState, series: Series) -> Series {
-    let segments = series.segments;
-    Series { state, segments }
-}
-
-// What stands next in the input.
-fn step(s: &[u8], out: &mut [u8], run: Run, series: Series) -> After {
-    let record = next_record(s);
+// What is remembered after a record. Its line is put where it is a chunk.
+fn answer(lines: &mut Lines, record: Record, series: Series) -> Series {
     match record {
-        Record::Chunk(at, size, work) => answer_chunk(
-            front(rest(s, at), size),
-            work,
-            out,
-            run.passed(at, size),
-            series,
-        ),
-        Record::State => After {
-            run: run.passed(1, 234),
-            series: with_state(state_of(rest(s, 1)), series),
+        Record::Fresh => Series::fresh(),
+        Record::State(s) => Series {
+            state: state_of(s),
+            segments: series.segments,
         },
-        Record::Fresh => After {
-            run: run.passed(1, 0),
-            series: fresh(),
-        },
-        Record::End => After {
-            run: run.stopped(),
-            series,
-        },
+        Record::Chunk(s, work) => {
+            let told = tell_last(s, work, series);
+            lines.put_line(told);
+            match work {
+                Work::Answer => told.after,
+                _ => series,
+            }
+        }
     }
 }
 
-fn turn(
-    streams: &mut Streams,
-    input: &mut [u8],
-    out: &mut [u8],
-    before: Run,
-    series: Series,
-) -> After {
-    let run = flushed(streams, out, before);
-    if run.going {
-        turn_on(streams, input, out, run, series)
+// With a whole record at hand, if the input has one.
+fn filled(streams: &mut Streams, buf: &mut [u8], input: Input) -> Input {
+    if input.behind == Behind::End || input.at_hand(buf).len() >= LONGEST_RECORD {
+        input
     } else {
-        After { run, series }
+        input.refill(streams, buf)
     }
 }
 
-fn turn_on(
-    streams: &mut Streams,
-    input: &mut [u8],
-    out: &mut [u8],
-    before: Run,
-    series: Series,
-) -> After {
-    let run = filled(streams, input, before);
-    if run.going {
-        step(unused(input, run), out, run, series)
-    } else {
-        After { run, series }
+// Nothing says that the input ends, so the turns are counted.
+fn answer_all(streams: &mut Streams, buf: &mut [u8], out: &mut [u8]) -> Ending {
+    let mut input = Input::new();
+    let mut lines = Lines { out, at: 0 };
+    let mut series = Series::fresh();
+    for _ in 0..u64::MAX {
+        if let Err(why) = lines.make_room(streams) {
+            return Ending::Unwritten(why);
+        }
+        input = filled(streams, buf, input);
+        if input.behind == Behind::Failure {
+            return Ending::Said;
+        }
+        let Some(record) = next_record(input.at_hand(buf)) else {
+            break;
+        };
+        let after = answer(&mut lines, record, series);
+        series = after;
+        input = input.used(record.length());
     }
-}
-
-// Writes what is left to be written.
-fn finished(streams: &mut Streams, out: &[u8], run: Run) -> Ending {
-    if run.unread {
-        return Ending::Unread;
-    }
-    if run.unwritten {
-        return Ending::Unwritten;
-    }
-    base_stream::finish(streams, out, run.at, Ending::Done)
-}
-
-// Nothing says that the input ends, so the turns are counted down.
-fn answer_all(streams: &mut Streams, input: &mut [u8], out: &mut [u8]) -> Ending {
-    let mut run = Run::new();
-    let mut series = fresh();
-    let mut left = u64::MAX;
-    while left > 0 && run.going {
-        let after = turn(streams, input, out, run, series);
-        let next_run = after.run;
-        let next_series = after.series;
-        run = next_run;
-        series = next_series;
-        left -= 1;
-    }
-    finished(streams, out, run)
+    lines.finish(streams)
 }
 
 // Four times what a record may take, so that most of each read is new.

@@ -5,14 +5,14 @@
 // What lacks at the input's end is 255.
 #![tactic(auto)]
 
-use base_enums::{ColorRange, ColorSpace, FrameType, InterpolationFilter, Profile};
 use base_loop_filter::LoopFilterParams;
 use base_parts::rest;
 use base_quantization::QuantizationParams;
 use base_segmentation::SegmentationParams;
-use base_stream::{Ending, Filled, Room, Streams, fill_front};
+use base_stream::{Ending, Streams, Unfilled};
 use base_types::Header;
 use segment_records::Segmentation;
+use std::io::Error;
 use test_values::{byte_at, flag_at, signed_byte_at, signed_short_at};
 
 // The values of a case.
@@ -60,15 +60,13 @@ fn loop_filter_of(s: &[u8]) -> LoopFilterParams {
     let mut lf = LoopFilterParams::default();
     lf.level = byte_at(s, 0);
     lf.delta_enabled = flag_at(s, 1);
-    let refs = [
+    lf.ref_deltas = [
         signed_byte_at(s, 2),
         signed_byte_at(s, 4),
         signed_byte_at(s, 6),
         signed_byte_at(s, 8),
     ];
-    let modes = [signed_byte_at(s, 10), signed_byte_at(s, 12)];
-    lf.ref_deltas = refs;
-    lf.mode_deltas = modes;
+    lf.mode_deltas = [signed_byte_at(s, 10), signed_byte_at(s, 12)];
     lf
 }
 
@@ -85,187 +83,101 @@ fn segmentation_of(s: &[u8]) -> SegmentationParams {
     let mut seg = SegmentationParams::default();
     seg.enabled = flag_at(s, 0);
     seg.abs_or_delta_update = flag_at(s, 1);
-    let on = test_values::flags_at(s, 2);
-    let data = test_values::signed_shorts_at(s, 34);
-    seg.feature_enabled = on;
-    seg.feature_data = data;
+    seg.feature_enabled = test_values::flags_at(s, 2);
+    seg.feature_data = test_values::signed_shorts_at(s, 34);
     seg
 }
 
 // The fields that the records don't follow from are the default header's.
 fn header_of(s: &[u8]) -> Header {
-    Header {
-        profile: Profile::Profile0,
-        bit_depth: test_values::depth_at(s, 0),
-        subsampling_x: false,
-        subsampling_y: false,
-        color_space: ColorSpace::Unknown,
-        color_range: ColorRange::StudioSwing,
-        show_existing_frame: false,
-        frame_to_show_map_idx: 0,
-        frame_type: FrameType::KeyFrame,
-        show_frame: false,
-        error_resilient_mode: false,
-        width: 0,
-        height: 0,
-        render_and_frame_size_different: false,
-        render_width: 0,
-        render_height: 0,
-        intra_only: false,
-        reset_frame_context: 0,
-        refresh_frame_flags: 0,
-        ref_frame_idx: [0; Header::REFS_PER_FRAME],
-        ref_frame_sign_bias: [0; Header::MAX_REF_FRAMES],
-        allow_high_precision_mv: false,
-        interpolation_filter: InterpolationFilter::EightTap,
-        refresh_frame_context: false,
-        frame_parallel_decoding_mode: false,
-        frame_context_idx: 0,
-        lf: loop_filter_of(rest(s, 1)),
-        quant: quantization_of(rest(s, 15)),
-        seg: segmentation_of(rest(s, 22)),
-        tile_cols_log2: 0,
-        tile_rows_log2: 0,
-        lossless: false,
-        header_size_in_bytes: 0,
-        uncompressed_header_size_in_bytes: 0,
-    }
+    let mut header = Header::default();
+    header.bit_depth = test_values::depth_at(s, 0);
+    header.lf = loop_filter_of(rest(s, 1));
+    header.quant = quantization_of(rest(s, 15));
+    header.seg = segmentation_of(rest(s, 22));
+    header
 }
 
-// The lines.
-
-fn put_lifted(out: &mut [u8], at: usize, n: u64) -> usize {
-    let at = base_bytes::put(out, at, b" ");
-    text_signed::put_lowered(out, at, n)
-}
-
-fn put_plain(out: &mut [u8], at: usize, n: u64) -> usize {
-    let at = base_bytes::put(out, at, b" ");
-    text_numeral::put_number(out, at, n)
-}
-
-// Of a record's row the scales and the reference have a sign.
-fn put_nth(out: &mut [u8], at: usize, i: usize, n: u32) -> usize {
-    match i {
-        8 | 9 | 10 | 11 | 13 => put_lifted(out, at, n as u64),
-        _ => put_plain(out, at, n as u64),
-    }
-}
-
-fn put_row(out: &mut [u8], at: usize, s: &[u32]) -> usize {
-    let mut next = at;
-    for i in 0..s.len() {
-        next = put_nth(out, next, i, s[i]);
-    }
-    next
-}
-
-fn put_segment(out: &mut [u8], at: usize, record: Segmentation) -> usize {
-    let s = text_record_rows::segment_row(record);
-    let at = put_row(out, at, &s);
-    base_bytes::put(out, at, b"\n")
-}
-
-fn put_segments(out: &mut [u8], at: usize, s: [Segmentation; 8]) -> usize {
-    let mut next = at;
-    for i in 0..8usize {
-        next = put_segment(out, next, s[i]);
-    }
-    next
-}
-
-fn put_scale(out: &mut [u8], at: usize, n: i16) -> usize {
-    put_lifted(out, at, text_signed::lift(n) as u64)
-}
-
-fn put_luma(out: &mut [u8], at: usize, h: Header, segment_id: u8) -> usize {
-    let depth = h.bit_depth;
-    let ac = segment_quant::get_ac_quant(depth, h.quant, h.seg, segment_id, true);
-    let dc = segment_quant::get_dc_quant(depth, h.quant, h.seg, segment_id, true);
-    let at = put_scale(out, at, ac);
-    put_scale(out, at, dc)
-}
-
-fn put_chroma(out: &mut [u8], at: usize, h: Header, segment_id: u8) -> usize {
-    let depth = h.bit_depth;
-    let ac = segment_quant::get_ac_quant(depth, h.quant, h.seg, segment_id, false);
-    let dc = segment_quant::get_dc_quant(depth, h.quant, h.seg, segment_id, false);
-    let at = put_scale(out, at, ac);
-    put_scale(out, at, dc)
-}
-
-// The four scales, each asked for by itself, in a record's order.
-fn put_scales(out: &mut [u8], at: usize, h: Header, segment_id: u8) -> usize {
-    let at = put_luma(out, at, h, segment_id);
-    let at = put_chroma(out, at, h, segment_id);
-    base_bytes::put(out, at, b"\n")
-}
-
-fn put_all_scales(out: &mut [u8], at: usize, h: Header) -> usize {
-    let mut next = at;
-    for i in 0..8u8 {
-        next = put_scales(out, next, h, i);
-    }
-    next
-}
-
-// After a case: the records, the text that isn't written yet, and whether another case may follow.
-#[derive(Clone, Copy)]
-struct After {
-    segments: [Segmentation; 8],
+// The text that isn't written yet, up to `at`.
+#[derive(Drop)]
+struct Text<'a> {
+    out: &'a mut [u8],
     at: usize,
-    more: bool,
-    unread: bool,
-    unwritten: bool,
 }
 
-fn ended(segments: [Segmentation; 8], at: usize) -> After {
-    After {
-        segments,
-        at,
-        more: false,
-        unread: false,
-        unwritten: false,
+// Eight lines take less: at most fifteen numbers with a space before each.
+const ROOM: usize = 4096;
+
+impl Text<'_> {
+    // Writes where there may be no room for the next case's lines.
+    fn make_room(&mut self, streams: &mut Streams) -> Result<(), Error> {
+        let at = self.at;
+        self.at = streams.make_room(self.out, at, ROOM)?;
+        Ok(())
     }
-}
 
-fn unread(segments: [Segmentation; 8], at: usize) -> After {
-    After {
-        segments,
-        at,
-        more: false,
-        unread: true,
-        unwritten: false,
+    // Writes what is left to be written.
+    fn finish(self, streams: &mut Streams) -> Ending {
+        let at = self.at;
+        streams.finish(self.out, at, Ending::Done)
     }
-}
 
-fn unwritten(segments: [Segmentation; 8], at: usize) -> After {
-    After {
-        segments,
-        at,
-        more: false,
-        unread: false,
-        unwritten: true,
+    fn put(&mut self, bytes: &[u8]) {
+        self.at = base_bytes::put(self.out, self.at, bytes);
     }
-}
 
-fn printed(out: &mut [u8], segments: [Segmentation; 8], at: usize) -> After {
-    After {
-        segments,
-        at: put_segments(out, at, segments),
-        more: true,
-        unread: false,
-        unwritten: false,
+    fn put_plain(&mut self, n: u64) {
+        self.put(b" ");
+        self.at = text_numeral::put_number(self.out, self.at, n);
     }
-}
 
-fn scaled(out: &mut [u8], segments: [Segmentation; 8], at: usize, h: Header) -> After {
-    After {
-        segments,
-        at: put_all_scales(out, at, h),
-        more: true,
-        unread: false,
-        unwritten: false,
+    // A number with a sign, as it is lifted.
+    fn put_lifted(&mut self, n: u64) {
+        self.put(b" ");
+        self.at = text_signed::put_lowered(self.out, self.at, n);
+    }
+
+    // Of a record's row the scales and the reference have a sign.
+    fn put_segment(&mut self, record: Segmentation) {
+        let row = text_record_rows::segment_row(record);
+        for (i, n) in row.iter().enumerate() {
+            match i {
+                8..=11 | 13 => self.put_lifted(*n as u64),
+                _ => self.put_plain(*n as u64),
+            }
+        }
+        self.put(b"\n");
+    }
+
+    fn put_segments(&mut self, segments: &[Segmentation]) {
+        for record in segments {
+            self.put_segment(*record);
+        }
+    }
+
+    fn put_scale(&mut self, n: i16) {
+        self.put_lifted(text_signed::lift(n) as u64);
+    }
+
+    // The four scales, each asked for by itself, in a record's order.
+    fn put_scales(&mut self, h: Header, segment_id: u8) {
+        for luma in [true, false] {
+            self.put_scale(segment_quant::get_ac_quant(
+                h.bit_depth,
+                h.quant,
+                h.seg,
+                segment_id,
+                luma,
+            ));
+            self.put_scale(segment_quant::get_dc_quant(
+                h.bit_depth,
+                h.quant,
+                h.seg,
+                segment_id,
+                luma,
+            ));
+        }
+        self.put(b"\n");
     }
 }
 
@@ -273,101 +185,71 @@ const HEADER: usize = 152;
 
 const RECORDS: usize = 200;
 
+// A case: its first byte and what follows it.
+#[derive(Clone, Copy)]
+struct Case {
+    kind: u8,
+    fields: [u8; 352],
+}
+
 // The bytes behind a case's first.
 fn length_of(kind: u8) -> usize {
-    if kind == 1 { RECORDS + HEADER } else { HEADER }
-}
-
-// A case: its first byte and what follows it.
-fn answered(out: &mut [u8], kind: u8, s: &[u8], last: [Segmentation; 8], at: usize) -> After {
     match kind {
-        0 => printed(
-            out,
-            Segmentation::update_segmentation(last, header_of(s)),
-            at,
-        ),
-        1 => printed(
-            out,
-            Segmentation::update_segmentation(segments_of(s), header_of(rest(s, RECORDS))),
-            at,
-        ),
-        2 => printed(out, last, at),
-        _ => scaled(out, last, at, header_of(s)),
+        1 => RECORDS + HEADER,
+        0 | 2 | 3 => HEADER,
+        _ => 0,
     }
 }
 
-fn case(
-    streams: &mut Streams,
-    out: &mut [u8],
-    kind: u8,
-    last: [Segmentation; 8],
-    at: usize,
-) -> After {
-    let mut buf = [255u8; 352];
-    let filled = fill_front(streams, &mut buf, length_of(kind));
-    match filled {
-        Filled::Failed(_) => unread(last, at),
-        _ => answered(out, kind, &buf, last, at),
-    }
-}
-
-fn next_case(streams: &mut Streams, out: &mut [u8], last: [Segmentation; 8], at: usize) -> After {
+fn read_case(streams: &mut Streams) -> Result<Case, Unfilled> {
     let mut kind = [255u8; 1];
-    let filled = base_stream::fill(streams, &mut kind, 0);
-    let Filled::Full = filled else {
-        return stopped(filled, last, at);
+    streams.fill(&mut kind, 0)?;
+    let kind = kind[0];
+    let mut fields = [255u8; 352];
+    match streams.fill_front(&mut fields, length_of(kind)) {
+        Err(Unfilled::Failed(at, why)) => Err(Unfilled::Failed(at, why)),
+        _ => Ok(Case { kind, fields }),
+    }
+}
+
+// Answers a case, and answers the records after it.
+fn answer(text: &mut Text, kind: u8, s: &[u8], last: [Segmentation; 8]) -> [Segmentation; 8] {
+    if kind == 3 {
+        let header = header_of(s);
+        for i in 0..8u8 {
+            text.put_scales(header, i);
+        }
+        return last;
+    }
+    let segments = match kind {
+        0 => Segmentation::update_segmentation(last, header_of(s)),
+        1 => Segmentation::update_segmentation(segments_of(s), header_of(rest(s, RECORDS))),
+        _ => last,
     };
-    if kind[0] > 3 {
-        return ended(last, at);
-    }
-    case(streams, out, kind[0], last, at)
+    text.put_segments(&segments);
+    segments
 }
 
-fn stopped(filled: Filled, last: [Segmentation; 8], at: usize) -> After {
-    match filled {
-        Filled::Failed(_) => unread(last, at),
-        _ => ended(last, at),
-    }
-}
-
-// Eight lines take less: at most fifteen numbers with a space before each.
-const ROOM: usize = 4096;
-
-// Writes where there may be no room for the next case's lines.
-fn turn(streams: &mut Streams, out: &mut [u8], last: [Segmentation; 8], at: usize) -> After {
-    let room = base_stream::make_room(streams, out, at, ROOM);
-    match room {
-        Room::At(next) => next_case(streams, out, last, next),
-        Room::Failed => unwritten(last, at),
-    }
-}
-
-fn finished(streams: &mut Streams, out: &[u8], after: After) -> Ending {
-    if after.unread {
-        return Ending::Unread;
-    }
-    if after.unwritten {
-        return Ending::Unwritten;
-    }
-    base_stream::finish(streams, out, after.at, Ending::Done)
-}
-
-// Nothing says that the input ends, so the cases are counted down.
+// Nothing says that the input ends, so the cases are counted.
 fn answer_all(streams: &mut Streams, out: &mut [u8]) -> Ending {
-    let mut after = After {
-        segments: [Segmentation::default(); 8],
-        at: 0,
-        more: true,
-        unread: false,
-        unwritten: false,
-    };
-    let mut left = u64::MAX;
-    while left > 0 && after.more {
-        let segments = after.segments;
-        after = turn(streams, out, segments, after.at);
-        left -= 1;
+    let mut text = Text { out, at: 0 };
+    let mut segments = [Segmentation::default(); 8];
+    for _ in 0..u64::MAX {
+        if let Err(why) = text.make_room(streams) {
+            return Ending::Unwritten(why);
+        }
+        let case = match read_case(streams) {
+            Err(Unfilled::Failed(_, why)) => return Ending::Unread(why),
+            Err(Unfilled::Ended(_)) => break,
+            Ok(case) => case,
+        };
+        if case.kind > 3 {
+            break;
+        }
+        let after = answer(&mut text, case.kind, &case.fields, segments);
+        segments = after;
     }
-    finished(streams, out, after)
+    text.finish(streams)
 }
 
 fn main(rt: HostRuntime) {

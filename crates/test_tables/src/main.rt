@@ -5,19 +5,12 @@ use base_enums::BitDepth;
 use segment_tables::Table;
 use std::io;
 
-// A scale after a space. A negative one, which no table has, would print as 0.
-fn print_scale(rt: &impl Print, scale: i16) -> io::Result<()> {
-    if scale < 0 {
-        print!(rt; " 0")
-    } else {
-        print!(rt; " {scale}")
-    }
-}
-
 fn print_table(rt: &impl Print, name: &str, table: Table) -> io::Result<()> {
     print!(rt; "{name}")?;
-    for i in 0..256u16 {
-        print_scale(rt, segment_tables::at(&table, i as u8))?;
+    for i in 0..=255u8 {
+        // A negative scale, which no table has, would print as 0.
+        let scale = segment_tables::at(&table, i).max(0);
+        print!(rt; " {scale}")?;
     }
     println!(rt)
 }

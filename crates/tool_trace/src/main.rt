@@ -7,370 +7,69 @@
 // item by its form, and writes.
 #![tactic(auto)]
 
-ghost use Rattle.std.specs.Prelude.{◌≤◌, ◌≡◌, length};
+ghost use Rattle.std.specs.Prelude.{◌≡◌, length};
 
 use base_enums::{BitDepth, ColorRange, ColorSpace, FrameType};
+use base_input::{Behind, Input};
 use base_loop_filter::LoopFilterParams;
 use base_parts::{front, rest};
 use base_quantization::QuantizationParams;
 use base_segmentation::SegmentationParams;
-use base_size::FrameSize;
-use base_stream::{Ending, Filled, Room, Streams, fill_front};
-use base_types::{Header, ReaderState};
-use chunk_answer::{Answer, ChunkRead};
+use base_stream::{Ending, Streams, Unfilled};
+use base_types::{Header, MAX_FRAMES_IN_SUPERFRAME, ReaderState};
+use chunk_answer::Answer;
 use listing_tracer::{Traced, Tracer, Yields};
 use segment_records::Segmentation;
 use std::env::{Env, FillError};
+use std::io::Error;
 
 // Everything is printed by its form: the text, with marks in it. # stands for a number, % for one with a sign that is
 // lifted as in `text_signed`, ? for true or false, <a|b> for one of some words, and @ ends a form. One text holds all
-// forms; `forms` hands it on, since what a text costs to prove grows with the calls beside it.
+// forms; `trace_by_forms` hands it on, since what a text costs to prove grows with the calls beside it.
 
-// The numbers of the forms at which printing starts.
-const REFUSAL: usize = 0;
-
-const FRAME: usize = 1;
-
-const FILTER: usize = 2;
-
-const SEGMENTATION: usize = 4;
-
-const STATE: usize = 7;
-
-const SLOTS: usize = 8;
-
-const COLUMNS: usize = 9;
-
-const FILE_REFUSED: usize = 10;
-
-const LAST: usize = 11;
-
-// A place in the output buffer, up to which it is printed, and one in the forms, up to which they are.
+// The forms at which printing starts, by their numbers.
 #[derive(Clone, Copy)]
-struct Pen {
-    at: usize,
-    form: usize,
+enum Form {
+    Refusal = 0,
+    Frame = 1,
+    Filter = 2,
+    Segmentation = 4,
+    State = 7,
+    Slots = 8,
+    Columns = 9,
+    FileRefused = 10,
+    Last = 11,
 }
 
 fn is_mark(c: u8) -> bool {
-    match c {
-        b'#' | b'%' | b'?' | b'<' | b'|' | b'>' | b'@' => true,
-        _ => false,
+    matches!(c, b'#' | b'%' | b'?' | b'<' | b'|' | b'>' | b'@')
+}
+
+// The text before the first mark, and what stands from the mark on.
+fn next_mark(form: &[u8]) -> (&[u8], &[u8]) {
+    let n = form.iter().position(|c| is_mark(*c)).unwrap_or(form.len());
+    (&form[..n], &form[n..])
+}
+
+// What stands behind a mark.
+fn behind(form: &[u8]) -> &[u8] {
+    rest(form, 1)
+}
+
+// What stands behind the first > there.
+fn behind_words(form: &[u8]) -> &[u8] {
+    let n = form.iter().position(|c| *c == b'>').unwrap_or(form.len());
+    behind(&form[n..])
+}
+
+// The n-th form, counted from 0, and those behind it.
+fn nth_form(forms: &[u8], n: usize) -> &[u8] {
+    let mut left = forms;
+    for _ in 0..n {
+        let n = left.iter().position(|c| *c == b'@').unwrap_or(left.len());
+        left = behind(&left[n..]);
     }
-}
-
-fn next_mark(form: &[u8], at: usize) -> usize
-    ensures { result ≤ length form.now }
-{
-    for i in at..form.len() {
-        if is_mark(form[i]) {
-            return i;
-        }
-    }
-    form.len()
-}
-
-fn after(form: &[u8], mark: usize) -> usize {
-    if mark < form.len() { mark + 1 } else { mark }
-}
-
-// The start of the n-th form, counted from 0.
-fn nth_form(form: &[u8], n: usize) -> usize {
-    let mut left = n;
-    for i in 0..form.len() {
-        if left == 0 {
-            return i;
-        }
-        if form[i] == b'@' {
-            left -= 1;
-        }
-    }
-    form.len()
-}
-
-fn start(form: &[u8], at: usize, n: usize) -> Pen {
-    Pen {
-        at,
-        form: nth_form(form, n),
-    }
-}
-
-// Prints the text before the next mark. The pen then stands at the mark.
-fn text(form: &[u8], out: &mut [u8], pen: Pen) -> Pen {
-    let from = pen.form;
-    let end = next_mark(form, from);
-    if from > end {
-        return pen;
-    }
-    Pen {
-        at: base_bytes::put(out, pen.at, &form[from..end]),
-        form: end,
-    }
-}
-
-// Behind the mark, with the text up to a place.
-fn passed(form: &[u8], mark: usize, at: usize) -> Pen {
-    Pen {
-        at,
-        form: after(form, mark),
-    }
-}
-
-// The text before the form's end, which is then passed.
-fn ended(form: &[u8], out: &mut [u8], pen: Pen) -> Pen {
-    let pen = text(form, out, pen);
-    passed(form, pen.form, pen.at)
-}
-
-fn mark_at(form: &[u8], at: usize) -> u8 {
-    if at < form.len() { form[at] } else { b'@' }
-}
-
-fn put_flag(out: &mut [u8], at: usize, n: u64) -> usize {
-    if n == 1 {
-        base_bytes::put(out, at, b"true")
-    } else {
-        base_bytes::put(out, at, b"false")
-    }
-}
-
-// Where the k-th of the words starts whose first < is at a place.
-fn word_start(form: &[u8], at: usize, k: u64) -> usize {
-    let mut next = after(form, at);
-    for _ in 0..k {
-        next = after(form, next_mark(form, next));
-    }
-    next
-}
-
-// The first > from a place on.
-fn words_end(form: &[u8], at: usize) -> usize {
-    for i in at..form.len() {
-        if form[i] == b'>' {
-            return i;
-        }
-    }
-    form.len()
-}
-
-// The k-th of the words, counted from 0.
-fn put_word(form: &[u8], out: &mut [u8], pen: Pen, k: u64) -> Pen {
-    let word = Pen {
-        at: pen.at,
-        form: word_start(form, pen.form, k),
-    };
-    let word = text(form, out, word);
-    passed(form, words_end(form, word.form), word.at)
-}
-
-// A value, at the mark at which the pen stands.
-fn put_value(form: &[u8], out: &mut [u8], pen: Pen, n: u64) -> Pen {
-    let mark = pen.form;
-    match mark_at(form, mark) {
-        b'#' => passed(form, mark, text_numeral::put_number(out, pen.at, n)),
-        b'%' => passed(form, mark, text_signed::put_lowered(out, pen.at, n)),
-        b'?' => passed(form, mark, put_flag(out, pen.at, n)),
-        b'<' => put_word(form, out, pen, n),
-        _ => pen,
-    }
-}
-
-// The text before the next mark, and the value.
-fn value(form: &[u8], out: &mut [u8], pen: Pen, n: u64) -> Pen {
-    let pen = text(form, out, pen);
-    put_value(form, out, pen, n)
-}
-
-fn wide(n: u32) -> u64 {
-    n as u64
-}
-
-fn row(form: &[u8], out: &mut [u8], pen: Pen, s: &[u32]) -> Pen {
-    let mut next = pen;
-    for i in 0..s.len() {
-        next = value(form, out, next, wide(s[i]));
-    }
-    next
-}
-
-// The records, row by row.
-
-fn colors(
-    form: &[u8],
-    out: &mut [u8],
-    pen: Pen,
-    depth: BitDepth,
-    x: bool,
-    y: bool,
-    space: ColorSpace,
-    range: ColorRange,
-) -> Pen {
-    let s = text_record_rows::color_row(depth, x, y, space, range);
-    row(form, out, pen, &s)
-}
-
-fn loop_filter(form: &[u8], out: &mut [u8], pen: Pen, lf: LoopFilterParams) -> Pen {
-    let s = text_setting_rows::filter_row(lf);
-    let pen = row(form, out, pen, &s);
-    ended(form, out, pen)
-}
-
-fn quantization(form: &[u8], out: &mut [u8], pen: Pen, q: QuantizationParams) -> Pen {
-    let s = text_setting_rows::quantization_row(q);
-    let pen = row(form, out, pen, &s);
-    ended(form, out, pen)
-}
-
-fn feature_flags(form: &[u8], out: &mut [u8], pen: Pen, seg: SegmentationParams) -> Pen {
-    let enabled = seg.feature_enabled;
-    let s = text_setting_rows::flag_row(enabled);
-    row(form, out, pen, &s)
-}
-
-fn feature_data(form: &[u8], out: &mut [u8], pen: Pen, seg: SegmentationParams) -> Pen {
-    let data = seg.feature_data;
-    let s = text_setting_rows::data_row(data);
-    row(form, out, pen, &s)
-}
-
-fn segmentation(form: &[u8], out: &mut [u8], pen: Pen, seg: SegmentationParams) -> Pen {
-    let s = text_setting_rows::segmentation_row(seg);
-    let pen = row(form, out, pen, &s);
-    let pen = feature_flags(form, out, pen, seg);
-    let pen = feature_data(form, out, pen, seg);
-    ended(form, out, pen)
-}
-
-fn header_colors(form: &[u8], out: &mut [u8], pen: Pen, h: Header) -> Pen {
-    let profile = h.profile;
-    let depth = h.bit_depth;
-    let space = h.color_space;
-    let range = h.color_range;
-    let pen = value(form, out, pen, u32::from(profile) as u64);
-    colors(
-        form,
-        out,
-        pen,
-        depth,
-        h.subsampling_x,
-        h.subsampling_y,
-        space,
-        range,
-    )
-}
-
-fn header_picture(form: &[u8], out: &mut [u8], pen: Pen, h: Header) -> Pen {
-    let s = text_record_rows::picture_row(h);
-    row(form, out, pen, &s)
-}
-
-fn header_sources(form: &[u8], out: &mut [u8], pen: Pen, h: Header) -> Pen {
-    let s = text_record_rows::source_row(h);
-    let pen = row(form, out, pen, &s);
-    ended(form, out, pen)
-}
-
-fn header_end(form: &[u8], out: &mut [u8], pen: Pen, h: Header) -> Pen {
-    let s = text_record_rows::end_row(h);
-    let pen = row(form, out, pen, &s);
-    ended(form, out, pen)
-}
-
-fn put_header(form: &[u8], out: &mut [u8], pen: Pen, h: Header) -> Pen {
-    let pen = header_colors(form, out, pen, h);
-    let pen = header_picture(form, out, pen, h);
-    let pen = header_sources(form, out, pen, h);
-    put_settings(form, out, pen, h)
-}
-
-fn put_settings(form: &[u8], out: &mut [u8], pen: Pen, h: Header) -> Pen {
-    let pen = loop_filter(form, out, pen, h.lf);
-    let pen = quantization(form, out, pen, h.quant);
-    let pen = segmentation(form, out, pen, h.seg);
-    header_end(form, out, pen, h)
-}
-
-fn state_colors(form: &[u8], out: &mut [u8], at: usize, st: ReaderState) -> usize {
-    let depth = st.bit_depth;
-    let space = st.color_space;
-    let range = st.color_range;
-    let pen = start(form, at, STATE);
-    let pen = colors(
-        form,
-        out,
-        pen,
-        depth,
-        st.subsampling_x,
-        st.subsampling_y,
-        space,
-        range,
-    );
-    let pen = ended(form, out, pen);
-    pen.at
-}
-
-fn slots(
-    form: &[u8],
-    out: &mut [u8],
-    at: usize,
-    sizes: [FrameSize; ReaderState::REF_FRAMES],
-) -> usize {
-    let s = text_record_rows::slot_row(sizes);
-    let pen = start(form, at, SLOTS);
-    let pen = row(form, out, pen, &s);
-    let pen = ended(form, out, pen);
-    pen.at
-}
-
-fn state_filter(form: &[u8], out: &mut [u8], at: usize, lf: LoopFilterParams) -> usize {
-    let pen = start(form, at, FILTER);
-    let pen = loop_filter(form, out, pen, lf);
-    pen.at
-}
-
-fn state_segmentation(form: &[u8], out: &mut [u8], at: usize, seg: SegmentationParams) -> usize {
-    let pen = start(form, at, SEGMENTATION);
-    let pen = segmentation(form, out, pen, seg);
-    pen.at
-}
-
-fn put_state(form: &[u8], out: &mut [u8], at: usize, st: ReaderState) -> usize {
-    let at = state_colors(form, out, at, st);
-    let at = state_filter(form, out, at, st.lf);
-    let at = state_segmentation(form, out, at, st.seg);
-    let sizes = st.reference_frame_sz;
-    slots(form, out, at, sizes)
-}
-
-fn put_segment(form: &[u8], out: &mut [u8], pen: Pen, i: usize, record: Segmentation) -> usize {
-    let s = text_record_rows::segment_row(record);
-    let pen = value(form, out, pen, i as u64);
-    let pen = row(form, out, pen, &s);
-    let pen = ended(form, out, pen);
-    pen.at
-}
-
-// A line for each.
-fn put_segments(form: &[u8], out: &mut [u8], pen: Pen, s: [Segmentation; 8]) -> usize {
-    let mut at = pen.at;
-    for i in 0..8usize {
-        let line = Pen { at, form: pen.form };
-        at = put_segment(form, out, line, i, s[i]);
-    }
-    at
-}
-
-// The answers.
-
-fn kind(h: Header) -> u64 {
-    let frame_type = h.frame_type;
-    if h.show_existing_frame {
-        return 3;
-    }
-    match frame_type {
-        FrameType::KeyFrame => 0,
-        FrameType::InterFrame => { if h.intra_only { 1 } else { 2 } }
-    }
+    left
 }
 
 // A frame's numbers, and its place and size in its chunk.
@@ -382,121 +81,229 @@ struct Place {
     size: usize,
 }
 
-fn put_place(form: &[u8], out: &mut [u8], at: usize, place: Place, h: Header) -> Pen {
-    let pen = start(form, at, FRAME);
-    let pen = value(form, out, pen, place.chunk);
-    let pen = value(form, out, pen, place.frame as u64);
-    let pen = value(form, out, pen, kind(h));
-    put_extent(form, out, pen, place)
-}
-
-fn put_extent(form: &[u8], out: &mut [u8], pen: Pen, place: Place) -> Pen {
-    let pen = value(form, out, pen, place.at as u64);
-    value(form, out, pen, place.size as u64)
-}
-
-fn of_byte(n: u8) -> u64 {
-    n as u64
-}
-
-fn of_short(n: u16) -> u64 {
-    n as u64
-}
-
-fn put_frame_line(form: &[u8], out: &mut [u8], pen: Pen, h: Header) -> Pen {
-    let pen = value(form, out, pen, h.width as u64);
-    let pen = value(form, out, pen, h.height as u64);
-    let pen = value(form, out, pen, of_byte(h.refresh_frame_flags));
-    value(
-        form,
-        out,
-        pen,
-        of_short(h.uncompressed_header_size_in_bytes),
-    )
-}
-
-// A frame's line, its header and the segment records after it.
-fn put_frame(
-    form: &[u8],
-    out: &mut [u8],
+// The text that isn't written yet, up to `at` in the output buffer, and what is left of the forms that it is printed by.
+#[derive(Drop)]
+struct Page<'a> {
+    forms: &'a [u8],
+    form: &'a [u8],
+    out: &'a mut [u8],
     at: usize,
-    place: Place,
-    h: Header,
-    segments: [Segmentation; 8],
-) -> usize {
-    let pen = put_place(form, out, at, place, h);
-    let pen = put_frame_line(form, out, pen, h);
-    let pen = put_header(form, out, pen, h);
-    put_segments(form, out, pen, segments)
-}
-
-fn put_refusal(
-    form: &[u8],
-    out: &mut [u8],
-    at: usize,
-    chunk: u64,
-    refusal: u8,
-    frame: usize,
-) -> usize {
-    let pen = start(form, at, REFUSAL);
-    let pen = value(form, out, pen, chunk);
-    let pen = value(form, out, pen, refusal as u64);
-    let pen = value(form, out, pen, frame as u64);
-    let pen = ended(form, out, pen);
-    pen.at
-}
-
-fn put_columns(form: &[u8], out: &mut [u8], at: usize) -> usize {
-    let pen = start(form, at, COLUMNS);
-    let pen = ended(form, out, pen);
-    pen.at
-}
-
-fn put_file_refused(form: &[u8], out: &mut [u8], at: usize, number: u64) -> usize {
-    let pen = start(form, at, FILE_REFUSED);
-    let pen = value(form, out, pen, number);
-    let pen = ended(form, out, pen);
-    pen.at
-}
-
-fn put_last(form: &[u8], out: &mut [u8], at: usize, chunks: u64, refused: u64) -> usize {
-    let pen = start(form, at, LAST);
-    let pen = value(form, out, pen, chunks);
-    let pen = value(form, out, pen, refused);
-    let pen = ended(form, out, pen);
-    pen.at
-}
-
-// The text that isn't written yet, up to `at` in the output buffer. Once a write failed nothing more is written.
-#[derive(Clone, Copy)]
-struct Page {
-    at: usize,
-    broken: bool,
-}
-
-impl Page {
-    fn moved(mut self, at: usize) -> Page {
-        self.at = at;
-        self
-    }
 }
 
 // What is printed between two looks at the room takes less: a frame's line, header and eight segment lines at most
 // 6,288 bytes, with twenty digits to every number, a state's line 1,981, the last lines 91.
 const ROOM: usize = 16384;
 
-// Writes where there may be no room for what comes next.
-fn flushed(streams: &mut Streams, out: &[u8], page: Page) -> Page {
-    if page.broken {
-        return page;
+impl Page<'_> {
+    // Writes where there may be no room for what comes next.
+    fn make_room(&mut self, streams: &mut Streams) -> Result<(), Error> {
+        let at = self.at;
+        self.at = streams.make_room(self.out, at, ROOM)?;
+        Ok(())
     }
-    let room = base_stream::make_room(streams, out, page.at, ROOM);
-    match room {
-        Room::At(at) => Page { at, broken: false },
-        Room::Failed => Page {
-            at: 0,
-            broken: true,
-        },
+
+    // Writes what is left to be written.
+    fn finish(self, streams: &mut Streams, ending: Ending) -> Ending {
+        let at = self.at;
+        streams.finish(self.out, at, ending)
+    }
+
+    fn put(&mut self, bytes: &[u8]) {
+        self.at = base_bytes::put(self.out, self.at, bytes);
+    }
+
+    fn start(&mut self, form: Form) {
+        self.form = nth_form(self.forms, form as usize);
+    }
+
+    // Prints the text before the next mark.
+    fn put_text(&mut self) {
+        let (text, form) = next_mark(self.form);
+        self.put(text);
+        self.form = form;
+    }
+
+    // The text before the form's end, which is then passed.
+    fn end(&mut self) {
+        self.put_text();
+        self.form = behind(self.form);
+    }
+
+    // The k-th of the words, counted from 0, whose < is next.
+    fn put_word(&mut self, k: u64) {
+        let mut word = behind(self.form);
+        for _ in 0..k {
+            let (_, next) = next_mark(word);
+            word = behind(next);
+        }
+        let (text, next) = next_mark(word);
+        self.put(text);
+        self.form = behind_words(next);
+    }
+
+    // The text before the next mark, and a value by the mark.
+    fn put_value(&mut self, n: u64) {
+        self.put_text();
+        let form = self.form;
+        match byte_of(form) {
+            b'#' => self.at = text_numeral::put_number(self.out, self.at, n),
+            b'%' => self.at = text_signed::put_lowered(self.out, self.at, n),
+            b'?' => self.put(if n == 1 {
+                b"true".as_slice()
+            } else {
+                b"false".as_slice()
+            }),
+            b'<' => {
+                self.put_word(n);
+                return;
+            }
+            _ => return,
+        }
+        self.form = behind(form);
+    }
+
+    fn put_row(&mut self, row: &[u32]) {
+        for n in row {
+            self.put_value(*n as u64);
+        }
+    }
+
+    // The records, row by row.
+
+    fn put_colors(
+        &mut self,
+        depth: BitDepth,
+        x: bool,
+        y: bool,
+        space: ColorSpace,
+        range: ColorRange,
+    ) {
+        self.put_row(&text_record_rows::color_row(depth, x, y, space, range));
+    }
+
+    fn put_loop_filter(&mut self, lf: LoopFilterParams) {
+        self.put_row(&text_setting_rows::filter_row(lf));
+        self.end();
+    }
+
+    fn put_quantization(&mut self, q: QuantizationParams) {
+        self.put_row(&text_setting_rows::quantization_row(q));
+        self.end();
+    }
+
+    fn put_segmentation(&mut self, seg: SegmentationParams) {
+        self.put_row(&text_setting_rows::segmentation_row(seg));
+        self.put_row(&text_setting_rows::flag_row(seg.feature_enabled));
+        self.put_row(&text_setting_rows::data_row(seg.feature_data));
+        self.end();
+    }
+
+    fn put_header(&mut self, h: Header) {
+        self.put_value(u32::from(h.profile) as u64);
+        self.put_colors(
+            h.bit_depth,
+            h.subsampling_x,
+            h.subsampling_y,
+            h.color_space,
+            h.color_range,
+        );
+        self.put_row(&text_record_rows::picture_row(h));
+        self.put_row(&text_record_rows::source_row(h));
+        self.end();
+        self.put_loop_filter(h.lf);
+        self.put_quantization(h.quant);
+        self.put_segmentation(h.seg);
+        self.put_row(&text_record_rows::end_row(h));
+        self.end();
+    }
+
+    fn put_state(&mut self, st: ReaderState) {
+        self.start(Form::State);
+        self.put_colors(
+            st.bit_depth,
+            st.subsampling_x,
+            st.subsampling_y,
+            st.color_space,
+            st.color_range,
+        );
+        self.end();
+        self.start(Form::Filter);
+        self.put_loop_filter(st.lf);
+        self.start(Form::Segmentation);
+        self.put_segmentation(st.seg);
+        self.start(Form::Slots);
+        self.put_row(&text_record_rows::slot_row(st.reference_frame_sz));
+        self.end();
+    }
+
+    // A line for each.
+    fn put_segments(&mut self, segments: &[Segmentation; 8]) {
+        let form = self.form;
+        for (i, record) in segments.iter().enumerate() {
+            self.form = form;
+            self.put_value(i as u64);
+            self.put_row(&text_record_rows::segment_row(*record));
+            self.end();
+        }
+    }
+
+    // The answers.
+
+    // A frame's line, its header and the segment records after it.
+    fn put_frame(&mut self, place: Place, h: Header, segments: &[Segmentation; 8]) {
+        self.start(Form::Frame);
+        self.put_value(place.chunk);
+        self.put_value(place.frame as u64);
+        self.put_value(kind(h));
+        self.put_value(place.at as u64);
+        self.put_value(place.size as u64);
+        self.put_value(h.width as u64);
+        self.put_value(h.height as u64);
+        self.put_value(h.refresh_frame_flags as u64);
+        self.put_value(h.uncompressed_header_size_in_bytes as u64);
+        self.put_header(h);
+        self.put_segments(segments);
+    }
+
+    fn put_refusal(&mut self, chunk: u64, refusal: u8, frame: usize) {
+        self.start(Form::Refusal);
+        self.put_value(chunk);
+        self.put_value(refusal as u64);
+        self.put_value(frame as u64);
+        self.end();
+    }
+
+    fn put_columns(&mut self) {
+        self.start(Form::Columns);
+        self.end();
+    }
+
+    fn put_file_refused(&mut self, number: u64) {
+        self.start(Form::FileRefused);
+        self.put_value(number);
+        self.end();
+    }
+
+    fn put_last(&mut self, chunks: u64, refused: u64) {
+        self.start(Form::Last);
+        self.put_value(chunks);
+        self.put_value(refused);
+        self.end();
+    }
+}
+
+// The mark at which a form starts, at the forms' end that of a form's end.
+fn byte_of(form: &[u8]) -> u8 {
+    form.first().copied().unwrap_or(b'@')
+}
+
+fn kind(h: Header) -> u64 {
+    if h.show_existing_frame {
+        return 3;
+    }
+    match h.frame_type {
+        FrameType::KeyFrame => 0,
+        FrameType::InterFrame => { if h.intra_only { 1 } else { 2 } }
     }
 }
 
@@ -505,227 +312,119 @@ fn flushed(streams: &mut Streams, out: &[u8], page: Page) -> Page {
 #[derive(Clone, Copy)]
 struct Series {
     chunk: u64,
-    page: Page,
     state: ReaderState,
     segments: [Segmentation; 8],
 }
 
-fn fresh(page: Page) -> Series {
-    Series {
-        chunk: 0,
-        page,
-        state: ReaderState::default(),
-        segments: [Segmentation::default(); 8],
+impl Series {
+    fn fresh() -> Series {
+        Series {
+            chunk: 0,
+            state: ReaderState::default(),
+            segments: [Segmentation::default(); 8],
+        }
     }
-}
 
-fn one_more(n: u64) -> u64 {
-    if n < u64::MAX { n + 1 } else { n }
-}
-
-// Some frames listed: the text, and the segment records after them.
-#[derive(Clone, Copy)]
-struct Listed {
-    page: Page,
-    segments: [Segmentation; 8],
-}
-
-fn list_frame(
-    streams: &mut Streams,
-    form: &[u8],
-    out: &mut [u8],
-    place: Place,
-    h: Header,
-    before: Listed,
-) -> Listed {
-    let old = before.segments;
-    let segments = Segmentation::update_segmentation(old, h);
-    let page = flushed(streams, out, before.page);
-    let at = put_frame(form, out, page.at, place, h, segments);
-    let page = page.moved(at);
-    Listed { page, segments }
-}
-
-// There are never more than eight.
-fn list_nth(
-    streams: &mut Streams,
-    form: &[u8],
-    out: &mut [u8],
-    chunk: u64,
-    i: usize,
-    read: ChunkRead,
-    before: Listed,
-) -> Listed {
-    if i >= 8 {
-        return before;
+    // Lists a frame, behind which the records are others.
+    fn list_frame(
+        &mut self,
+        streams: &mut Streams,
+        page: &mut Page,
+        place: Place,
+        h: Header,
+    ) -> Result<(), Error> {
+        let after = Segmentation::update_segmentation(self.segments, h);
+        self.segments = after;
+        page.make_room(streams)?;
+        page.put_frame(place, h, &self.segments);
+        Ok(())
     }
-    let h = read.headers[i];
-    let place = Place {
-        chunk,
-        frame: i,
-        at: read.at[i],
-        size: read.size[i],
-    };
-    list_frame(streams, form, out, place, h, before)
-}
 
-fn list_frames(
-    streams: &mut Streams,
-    form: &[u8],
-    out: &mut [u8],
-    chunk: u64,
-    frames: usize,
-    read: ChunkRead,
-    before: Listed,
-) -> Listed {
-    let mut listed = before;
-    for i in 0..frames {
-        let after = list_nth(streams, form, out, chunk, i, read, listed);
-        listed = after;
+    // Lists the state, which ends a chunk.
+    fn end_chunk(
+        &mut self,
+        streams: &mut Streams,
+        page: &mut Page,
+        state: ReaderState,
+    ) -> Result<(), Error> {
+        page.make_room(streams)?;
+        page.put_state(state);
+        self.state = state;
+        self.chunk = self.chunk.saturating_add(1);
+        Ok(())
     }
-    listed
-}
 
-fn list_refusal(
-    streams: &mut Streams,
-    form: &[u8],
-    out: &mut [u8],
-    chunk: u64,
-    refusal: u8,
-    frame: usize,
-    before: Listed,
-) -> Listed {
-    let page = flushed(streams, out, before.page);
-    let at = put_refusal(form, out, page.at, chunk, refusal, frame);
-    let page = page.moved(at);
-    let segments = before.segments;
-    Listed { page, segments }
-}
-
-fn list_answer(
-    streams: &mut Streams,
-    form: &[u8],
-    out: &mut [u8],
-    chunk: u64,
-    read: ChunkRead,
-    before: Listed,
-) -> Listed {
-    let answer = read.answer;
-    let Answer::Frames(n) = answer else {
-        return list_refusal(
-            streams,
-            form,
-            out,
-            chunk,
-            answer.number(),
-            answer.frame(),
-            before,
-        );
-    };
-    list_frames(streams, form, out, chunk, n, read, before)
-}
-
-fn list_single(
-    streams: &mut Streams,
-    form: &[u8],
-    out: &mut [u8],
-    number: u8,
-    place: Place,
-    h: Header,
-    before: Listed,
-) -> Listed {
-    if number == 0 {
-        list_frame(streams, form, out, place, h, before)
-    } else {
-        list_refusal(streams, form, out, place.chunk, number, 0, before)
+    fn answer_chunk(
+        &mut self,
+        streams: &mut Streams,
+        page: &mut Page,
+        s: &[u8],
+    ) -> Result<(), Error> {
+        let read = chunk_parser::parse_chunk(s, self.state);
+        match read.answer {
+            Answer::Frames(n) => {
+                for i in 0..n.min(MAX_FRAMES_IN_SUPERFRAME) {
+                    let place = Place {
+                        chunk: self.chunk,
+                        frame: i,
+                        at: read.at[i],
+                        size: read.size[i],
+                    };
+                    self.list_frame(streams, page, place, read.headers[i])?;
+                }
+            }
+            answer => {
+                page.make_room(streams)?;
+                page.put_refusal(self.chunk, answer.number(), answer.frame());
+            }
+        }
+        self.end_chunk(streams, page, read.state)
     }
-}
 
-fn list_state(
-    streams: &mut Streams,
-    form: &[u8],
-    out: &mut [u8],
-    state: ReaderState,
-    before: Page,
-) -> Page {
-    let page = flushed(streams, out, before);
-    let at = put_state(form, out, page.at, state);
-    page.moved(at)
-}
-
-fn listed_before(series: Series) -> Listed {
-    let page = series.page;
-    let segments = series.segments;
-    Listed { page, segments }
-}
-
-fn after_chunk(
-    series: Series,
-    page: Page,
-    state: ReaderState,
-    segments: [Segmentation; 8],
-) -> Series {
-    Series {
-        chunk: one_more(series.chunk),
-        page,
-        state,
-        segments,
+    // A single frame of a chunk, printed as the only one.
+    fn answer_frame(
+        &mut self,
+        streams: &mut Streams,
+        page: &mut Page,
+        s: &[u8],
+        offset: usize,
+        size: usize,
+    ) -> Result<(), Error> {
+        let read = chunk_frame::parse_frame(s, offset, size, self.state);
+        let number = read.place.number();
+        if number == 0 {
+            let place = Place {
+                chunk: self.chunk,
+                frame: 0,
+                at: 0,
+                size,
+            };
+            self.list_frame(streams, page, place, read.header)?;
+        } else {
+            page.make_room(streams)?;
+            page.put_refusal(self.chunk, number, 0);
+        }
+        self.end_chunk(streams, page, read.state)
     }
-}
 
-fn answer_chunk(
-    streams: &mut Streams,
-    form: &[u8],
-    s: &[u8],
-    out: &mut [u8],
-    series: Series,
-) -> Series {
-    let read = chunk_parser::parse_chunk(s, series.state);
-    let listed = list_answer(
-        streams,
-        form,
-        out,
-        series.chunk,
-        read,
-        listed_before(series),
-    );
-    let state = read.state;
-    let page = list_state(streams, form, out, state, listed.page);
-    let segments = listed.segments;
-    after_chunk(series, page, state, segments)
-}
-
-fn answer_frame(
-    streams: &mut Streams,
-    form: &[u8],
-    s: &[u8],
-    out: &mut [u8],
-    offset: usize,
-    size: usize,
-    series: Series,
-) -> Series {
-    let read = chunk_frame::parse_frame(s, offset, size, series.state);
-    let verdict = read.place;
-    let place = Place {
-        chunk: series.chunk,
-        frame: 0,
-        at: 0,
-        size,
-    };
-    let header = read.header;
-    let listed = list_single(
-        streams,
-        form,
-        out,
-        verdict.number(),
-        place,
-        header,
-        listed_before(series),
-    );
-    let state = read.state;
-    let page = list_state(streams, form, out, state, listed.page);
-    let segments = listed.segments;
-    after_chunk(series, page, state, segments)
+    fn answer(
+        &mut self,
+        streams: &mut Streams,
+        page: &mut Page,
+        record: Record,
+        buf: &[u8],
+    ) -> Result<(), Error> {
+        match record {
+            Record::Fresh => {
+                *self = Series::fresh();
+                Ok(())
+            }
+            Record::Chunk(n) => self.answer_chunk(streams, page, front(buf, n)),
+            Record::Frame(n, offset, size) => {
+                self.answer_frame(streams, page, front(buf, n), offset, size)
+            }
+        }
+    }
 }
 
 // A record of a series: a chunk is so many bytes at the buffer's start.
@@ -735,334 +434,127 @@ enum Record {
     Chunk(usize),
     // A single frame of such a chunk, at an offset and of a size.
     Frame(usize, usize, usize),
-    End,
-    Unread,
 }
 
-// What stands in a series where it ends early.
-fn stopped(filled: Filled) -> Record {
-    match filled {
-        Filled::Failed(_) => Record::Unread,
-        _ => Record::End,
-    }
+fn read_size(streams: &mut Streams) -> Result<usize, Unfilled> {
+    let mut bytes = [0u8; 8];
+    streams.fill(&mut bytes, 0)?;
+    Ok(u64::from_le_bytes(bytes) as usize)
 }
 
-fn read_chunk(streams: &mut Streams, buf: &mut [u8]) -> Record {
-    let mut size = [0u8; 4];
-    let filled = base_stream::fill(streams, &mut size, 0);
-    let Filled::Full = filled else {
-        return stopped(filled);
-    };
-    let Ok(n) = base_little::read_little(&size, 0, 4) else {
-        return Record::End;
-    };
-    let filled = fill_front(streams, buf, n as usize);
-    match filled {
-        Filled::Full => Record::Chunk(n as usize),
-        _ => stopped(filled),
-    }
+fn read_chunk(streams: &mut Streams, buf: &mut [u8]) -> Result<usize, Unfilled> {
+    let mut bytes = [0u8; 4];
+    streams.fill(&mut bytes, 0)?;
+    let n = u32::from_le_bytes(bytes) as usize;
+    streams.fill_front(buf, n)?;
+    Ok(n)
 }
 
-fn read_frame(streams: &mut Streams, buf: &mut [u8]) -> Record {
-    let mut place = [0u8; 16];
-    let filled = base_stream::fill(streams, &mut place, 0);
-    let Filled::Full = filled else {
-        return stopped(filled);
-    };
-    let Ok(offset) = base_little::read_little(&place, 0, 8) else {
-        return Record::End;
-    };
-    let Ok(size) = base_little::read_little(&place, 8, 8) else {
-        return Record::End;
-    };
-    let chunk = read_chunk(streams, buf);
-    match chunk {
-        Record::Chunk(n) => Record::Frame(n, offset as usize, size as usize),
-        _ => chunk,
-    }
-}
-
-fn read_series_record(streams: &mut Streams, buf: &mut [u8]) -> Record {
-    let mut kind = [4u8; 1];
-    let filled = base_stream::fill(streams, &mut kind, 0);
-    let Filled::Full = filled else {
-        return stopped(filled);
-    };
+// The next record. A byte that says none ends the series.
+fn read_record(streams: &mut Streams, buf: &mut [u8]) -> Result<Record, Unfilled> {
+    let mut kind = [0u8; 1];
+    streams.fill(&mut kind, 0)?;
     match kind[0] {
-        0 => Record::Fresh,
-        1 => read_chunk(streams, buf),
-        3 => read_frame(streams, buf),
-        _ => Record::End,
-    }
-}
-
-fn after_record(
-    streams: &mut Streams,
-    form: &[u8],
-    record: Record,
-    buf: &[u8],
-    out: &mut [u8],
-    series: Series,
-) -> Series {
-    match record {
-        Record::Chunk(n) => answer_chunk(streams, form, front(buf, n), out, series),
-        Record::Frame(n, offset, size) => answer_frame(
-            streams,
-            form,
-            front(buf, n),
-            out,
-            offset,
-            size,
-            series,
-        ),
-        _ => fresh(series.page),
-    }
-}
-
-fn is_last(record: Record) -> bool {
-    match record {
-        Record::End => true,
-        Record::Unread => true,
-        _ => false,
-    }
-}
-
-// Writes what is left to be written.
-fn finished(streams: &mut Streams, out: &[u8], page: Page, ending: Ending) -> Ending {
-    if page.broken {
-        return Ending::Unwritten;
-    }
-    base_stream::finish(streams, out, page.at, ending)
-}
-
-fn end(streams: &mut Streams, out: &[u8], record: Record, page: Page) -> Ending {
-    match record {
-        Record::Unread => end_unread(streams, out, page),
-        _ => finished(streams, out, page, Ending::Done),
-    }
-}
-
-// What was listed before a read failed is written all the same. Why it failed is said first, while errno tells.
-fn end_unread(streams: &mut Streams, out: &[u8], page: Page) -> Ending {
-    let unread = Ending::Unread;
-    unread.say(streams);
-    finished(streams, out, page, Ending::Said)
-}
-
-// Nothing says that the input ends, so the records are counted down.
-fn trace_series(streams: &mut Streams, form: &[u8], buf: &mut [u8], out: &mut [u8]) -> Ending {
-    let page = Page {
-        at: 0,
-        broken: false,
-    };
-    let mut series = fresh(page);
-    let mut record = read_series_record(streams, buf);
-    let mut left = u64::MAX;
-    while left > 0 {
-        if is_last(record) {
-            return end(streams, out, record, series.page);
+        0 => Ok(Record::Fresh),
+        1 => Ok(Record::Chunk(read_chunk(streams, buf)?)),
+        3 => {
+            let offset = read_size(streams)?;
+            let size = read_size(streams)?;
+            let n = read_chunk(streams, buf)?;
+            Ok(Record::Frame(n, offset, size))
         }
-        series = after_record(streams, form, record, buf, out, series);
-        if series.page.broken {
-            return Ending::Unwritten;
-        }
-        record = read_series_record(streams, buf);
-        left -= 1;
+        _ => Err(Unfilled::Ended(0)),
     }
-    Ending::Done
 }
 
-// A file: what is read and not used yet lies in the input buffer from `start` to `end`. Once a read or a write fails,
-// nothing more is read.
-#[derive(Clone, Copy)]
-struct Run {
-    start: usize,
-    end: usize,
-    // Nothing follows.
-    ended: bool,
-    // A read failed behind it, which is said already.
-    failed: bool,
-    page: Page,
-    going: bool,
-    // The file is refused.
-    refused: bool,
-}
-
-impl Run {
-    fn new() -> Run {
-        Run {
-            start: 0,
-            end: 0,
-            ended: false,
-            failed: false,
-            page: Page {
-                at: 0,
-                broken: false,
-            },
-            going: true,
-            refused: false,
+// Nothing says that the input ends, so the records are counted.
+fn trace_series(streams: &mut Streams, mut page: Page, buf: &mut [u8]) -> Ending {
+    let mut series = Series::fresh();
+    let mut ending = Ending::Done;
+    for _ in 0..u64::MAX {
+        match read_record(streams, buf) {
+            Ok(record) => {
+                if let Err(why) = series.answer(streams, &mut page, record, buf) {
+                    return Ending::Unwritten(why);
+                }
+            }
+            Err(Unfilled::Ended(_)) => break,
+            // What was listed before a read failed is written all the same.
+            Err(Unfilled::Failed(_, why)) => {
+                Ending::Unread(why).say(streams);
+                ending = Ending::Said;
+                break;
+            }
         }
     }
-
-    // So many bytes are used.
-    fn moved(mut self, used: usize) -> Run {
-        self.start = forward(self.start, self.end, used);
-        self
-    }
-
-    // The input lies at the buffer's front, up to `end`.
-    fn filled(mut self, end: usize, ended: bool) -> Run {
-        self.start = 0;
-        self.end = end;
-        self.ended = ended;
-        self
-    }
-
-    // The same, and no more can be read.
-    fn failed_behind(mut self, end: usize) -> Run {
-        self.failed = true;
-        self.filled(end, false)
-    }
-
-    fn stopped(mut self) -> Run {
-        self.going = false;
-        self
-    }
-
-    fn refused(mut self) -> Run {
-        self.refused = true;
-        self
-    }
-
-    fn with_page(mut self, page: Page) -> Run {
-        self.page = page;
-        if page.broken { self.stopped() } else { self }
-    }
+    page.finish(streams, ending)
 }
 
-// The place n bytes on, which is never past the end.
-fn forward(at: usize, end: usize, n: usize) -> usize {
-    if at > end {
-        return end;
-    }
-    if n > end - at {
-        return end;
-    }
-    at + n
-}
+// A file.
 
-// Says why a read failed, while errno tells. What was read before is still printed.
-fn say_unread(streams: &mut Streams) {
-    let unread = Ending::Unread;
-    unread.say(streams);
-}
-
-// Moves what is not used to the buffer's front, and fills it.
-fn refilled(streams: &mut Streams, input: &mut [u8], run: Run) -> Run {
-    if run.failed {
-        return run.stopped();
-    }
-    let n = base_buffer::to_front(input, run.start, run.end);
-    let filled = base_stream::fill(streams, input, n);
-    match filled {
-        Filled::Full => run.filled(input.len(), false),
-        Filled::Ended(end) => run.filled(end, true),
-        Filled::Failed(end) => {
-            say_unread(streams);
-            run.failed_behind(end)
-        }
-    }
-}
-
-fn put_cut(form: &[u8], out: &mut [u8], at: usize, chunks: u64, refused: u64) -> usize {
-    let at = put_file_refused(form, out, at, 8);
-    put_last(form, out, at, chunks, refused)
-}
-
-// What a tracer yields, by its form.
-fn put_item(form: &[u8], out: &mut [u8], at: usize, traced: Traced) -> usize {
-    let yields = traced.yields;
-    let header = traced.header;
-    let records = traced.tracer.records;
-    match yields {
-        Yields::Columns => put_columns(form, out, at),
-        Yields::Frame(chunk, frame, place, size) => put_frame(
-            form,
-            out,
-            at,
-            Place {
+// Prints what a tracer yields.
+fn put_item(page: &mut Page, traced: Traced) {
+    match traced.yields {
+        Yields::Columns => page.put_columns(),
+        Yields::Frame(chunk, frame, at, size) => {
+            let place = Place {
                 chunk,
                 frame,
-                at: place,
+                at,
                 size,
-            },
-            header,
-            records,
-        ),
-        Yields::Refused(chunk, number, frame) => put_refusal(form, out, at, chunk, number, frame),
-        Yields::NoFile => put_file_refused(form, out, at, 7),
-        Yields::Cut(chunks, refused) => put_cut(form, out, at, chunks, refused),
-        Yields::Last(chunks, refused) => put_last(form, out, at, chunks, refused),
-        Yields::More => at,
-        Yields::Again => at,
-        Yields::Over => at,
+            };
+            page.put_frame(place, traced.header, &traced.tracer.records);
+        }
+        Yields::Refused(chunk, number, frame) => page.put_refusal(chunk, number, frame),
+        Yields::NoFile => page.put_file_refused(7),
+        Yields::Cut(chunks, refused) => {
+            page.put_file_refused(8);
+            page.put_last(chunks, refused);
+        }
+        Yields::Last(chunks, refused) => page.put_last(chunks, refused),
+        Yields::More | Yields::Again | Yields::Over => {}
     }
 }
 
-fn printed(streams: &mut Streams, form: &[u8], out: &mut [u8], run: Run, traced: Traced) -> Run {
-    let page = flushed(streams, out, run.page);
-    let at = put_item(form, out, page.at, traced);
-    run.with_page(page.moved(at))
-}
-
-fn served(
-    streams: &mut Streams,
-    form: &[u8],
-    input: &mut [u8],
-    out: &mut [u8],
-    run: Run,
-    traced: Traced,
-) -> Run {
-    let yields = traced.yields;
-    match yields {
-        Yields::More => refilled(streams, input, run),
-        Yields::Again => run,
-        Yields::NoFile => printed(streams, form, out, run.refused(), traced),
-        Yields::Cut(_, _) => printed(streams, form, out, run.refused(), traced),
-        Yields::Over => run.stopped(),
-        _ => printed(streams, form, out, run, traced),
-    }
-}
-
-fn called(input: &[u8], run: Run, tracer: Tracer) -> Traced {
-    let at_hand = rest(front(input, run.end), run.start);
-    listing_tracer::next_item(tracer, at_hand, run.ended)
-}
-
-fn end_file(streams: &mut Streams, out: &[u8], run: Run) -> Ending {
-    if run.failed {
-        return finished(streams, out, run.page, Ending::Said);
-    }
-    if run.refused {
-        finished(streams, out, run.page, Ending::Refused)
-    } else {
-        finished(streams, out, run.page, Ending::Done)
-    }
-}
-
-// Nothing says that the input ends, so the turns are counted down.
-fn trace_file(streams: &mut Streams, form: &[u8], input: &mut [u8], out: &mut [u8]) -> Ending {
-    let mut run = Run::new();
+// Nothing says that the input ends, so the turns are counted.
+fn trace_file(streams: &mut Streams, mut page: Page, buf: &mut [u8]) -> Ending {
+    let mut input = Input::new();
     let mut tracer = Tracer::new();
-    let mut left = u64::MAX;
-    while left > 0 && run.going {
-        let traced = called(input, run, tracer);
-        let after = traced.tracer;
-        run = served(streams, form, input, out, run.moved(traced.used), traced);
-        tracer = after;
-        left -= 1;
+    let mut ending = Ending::Done;
+    for _ in 0..u64::MAX {
+        let traced = listing_tracer::next_item(
+            tracer,
+            input.at_hand(buf),
+            input.behind == Behind::End,
+        );
+        tracer = traced.tracer;
+        input = input.used(traced.used);
+        match traced.yields {
+            Yields::More => {
+                // What was read before a read failed is printed, and the failure is said already.
+                if input.behind == Behind::Failure {
+                    ending = Ending::Said;
+                    break;
+                }
+                input = input.refill(streams, buf);
+            }
+            Yields::Again => {}
+            Yields::Over => break,
+            _ => {
+                if let Err(why) = page.make_room(streams) {
+                    return Ending::Unwritten(why);
+                }
+                put_item(&mut page, traced);
+            }
+        }
+        if let Yields::NoFile | Yields::Cut(_, _) = traced.yields {
+            ending = Ending::Refused;
+        }
     }
-    end_file(streams, out, run)
+    if input.behind == Behind::Failure {
+        ending = Ending::Said;
+    }
+    page.finish(streams, ending)
 }
 
 // Four times what a record may take, so that most of each read is new.
@@ -1072,26 +564,25 @@ fn input_buffer() -> [u8; 262144]
     [0; 262144]
 }
 
-fn on_file(streams: &mut Streams, form: &[u8]) {
-    let mut input = input_buffer();
+fn trace(streams: &mut Streams, forms: &[u8], mode: Mode) {
     let mut out = io::large_buffer();
-    let ending = trace_file(streams, form, &mut input, &mut out);
+    let page = Page {
+        forms,
+        form: forms,
+        out: &mut out,
+        at: 0,
+    };
+    let ending = match mode {
+        Mode::File => {
+            let mut buf = input_buffer();
+            trace_file(streams, page, &mut buf)
+        }
+        Mode::Series => {
+            let mut buf = io::large_buffer();
+            trace_series(streams, page, &mut buf)
+        }
+    };
     ending.say(streams);
-}
-
-fn on_series(streams: &mut Streams, form: &[u8]) {
-    let mut buf = io::large_buffer();
-    let mut out = io::large_buffer();
-    let ending = trace_series(streams, form, &mut buf, &mut out);
-    ending.say(streams);
-}
-
-fn trace(streams: &mut Streams, form: &[u8], file: bool) {
-    if file {
-        on_file(streams, form)
-    } else {
-        on_series(streams, form)
-    }
 }
 
 // What the arguments ask for.
@@ -1099,21 +590,20 @@ fn trace(streams: &mut Streams, form: &[u8], file: bool) {
 enum Mode {
     File,
     Series,
-    Unknown,
 }
 
-fn asked(rt: &impl Env) -> Mode {
+fn asked(rt: &impl Env) -> Option<Mode> {
     let mut word = [0u8; 8];
     match rt.arg(1, &mut word) {
         Ok(n) => {
             if &word[..n] == b"series".as_slice() && is_alone(rt) {
-                Mode::Series
+                Some(Mode::Series)
             } else {
-                Mode::Unknown
+                None
             }
         }
-        Err(FillError::NotPresent) => Mode::File,
-        Err(FillError::TooLong) => Mode::Unknown,
+        Err(FillError::NotPresent) => Some(Mode::File),
+        Err(FillError::TooLong) => None,
     }
 }
 
@@ -1122,7 +612,7 @@ fn is_alone(rt: &impl Env) -> bool {
     matches!(rt.arg(2, &mut []), Err(FillError::NotPresent))
 }
 
-fn forms(streams: &mut Streams, file: bool) {
+fn trace_by_forms(streams: &mut Streams, mode: Mode) {
     trace(
         streams,
         b"# refused # frame #\n@\
@@ -1154,17 +644,15 @@ fn forms(streams: &mut Streams, file: bool) {
         chunk frame kind at size width height refresh hdr\n@\
         file refused #\n@\
         # chunks # refused\n@",
-        file,
+        mode,
     )
 }
 
 fn main(rt: HostRuntime) {
-    let mode = asked(&rt);
     let mut streams = Streams::new(rt.stdin(), rt.stdout(), rt.stderr());
-    match mode {
-        Mode::File => forms(&mut streams, true),
-        Mode::Series => forms(&mut streams, false),
-        Mode::Unknown => {
+    match asked(&rt) {
+        Some(mode) => trace_by_forms(&mut streams, mode),
+        None => {
             let _ = rt.eprintln("tool_trace: takes no argument but series");
         }
     }
