@@ -100,10 +100,7 @@ fn mode_after(mode: Mode, c: u8, n: u64) -> Mode
 fn is_mark(c: u8) -> bool
     ensures { result ≡ is_mark c }
 {
-    match c {
-        b'#' | b'%' | b'?' | b'<' => true,
-        _ => false,
-    }
+    matches!(c, b'#' | b'%' | b'?' | b'<')
 }
 
 // Whether a value goes with a byte.
@@ -125,17 +122,11 @@ fn value_after(i: usize, mode: Mode, c: u8) -> usize
     if takes_value(mode, c) { i + 1 } else { i }
 }
 
-fn wide(n: u32) -> u64
-    ensures { result ≡ n }
-{
-    n as u64
-}
-
 // The i-th value, or 0 where there are fewer.
 fn value_at(values: &[u32], i: usize) -> u64
     ensures { result ≡ get_or values.now i 0 }
 {
-    if i < values.len() { wide(values[i]) } else { 0 }
+    u64::from(values.get(i).copied().unwrap_or(0))
 }
 
 // The form with these values.
@@ -145,8 +136,7 @@ pub fn put_form(out: &mut [u8], at: usize, form: &[u8], values: &[u32]) -> usize
     let mut next = at;
     let mut value = 0;
     let mut mode = Mode::Text;
-    for i in 0..form.len() {
-        let c = form[i];
+    for &c in form {
         let n = value_at(values, value);
         next = put_piece(out, next, mode, c, n);
         value = value_after(value, mode, c);

@@ -27,14 +27,10 @@ impl Kind {
         if header.show_existing_frame {
             return Kind::Show;
         }
-        let frame_type = header.frame_type;
-        match frame_type {
+        match header.frame_type {
             FrameType::KeyFrame => Kind::Key,
-            FrameType::InterFrame => if header.intra_only {
-                Kind::Intra
-            } else {
-                Kind::Inter
-            },
+            FrameType::InterFrame if header.intra_only => Kind::Intra,
+            FrameType::InterFrame => Kind::Inter,
         }
     }
 }
@@ -64,22 +60,18 @@ fn put_frame(out: &mut [u8], at: usize, chunk: u64, frame: u64, kind: Kind) -> u
 fn put_sizes(out: &mut [u8], at: usize, place: u64, size: u64, width: u32, height: u32) -> usize
     ensures { Written out.old at ((numeral place ++ ascii " ") ++ ((numeral size ++ ascii " ") ++ ((numeral width ++ ascii " ") ++ (numeral height ++ ascii " ")))) result out.new }
 {
-    let w = width as u64;
-    let h = height as u64;
     let a = text_line::put_field(out, at, place);
     let b = text_line::put_field(out, a, size);
-    let c = text_line::put_field(out, b, w);
-    text_line::put_field(out, c, h)
+    let c = text_line::put_field(out, b, width as u64);
+    text_line::put_field(out, c, height as u64)
 }
 
 // `refresh hdr`, and the line's end.
 fn put_header(out: &mut [u8], at: usize, refresh: u8, hdr: u16) -> usize
     ensures { Written out.old at ((numeral refresh ++ ascii " ") ++ (numeral hdr ++ ascii "\n")) result out.new }
 {
-    let f = refresh as u64;
-    let n = hdr as u64;
-    let next = text_line::put_field(out, at, f);
-    text_line::put_last(out, next, n)
+    let next = text_line::put_field(out, at, refresh as u64);
+    text_line::put_last(out, next, hdr as u64)
 }
 
 // A frame of an accepted chunk, with its place and size in the chunk and its header.

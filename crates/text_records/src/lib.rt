@@ -190,9 +190,8 @@ pub fn put_segments(out: &mut [u8], at: usize, records: [Segmentation; 8]) -> us
     ensures { Written out.old at (segments_text records) result out.new }
 {
     let mut next = at;
-    for i in 0..8usize {
-        let s = records[i];
-        next = put_segment(out, next, i, s);
+    for (i, s) in records.iter().enumerate() {
+        next = put_segment(out, next, i, *s);
     }
     next
 }
