@@ -6,8 +6,7 @@ use native.Mathlib.Omega.{arith}
 use Rattle.base_bits.specs.declared.Refusal.{Refusal}
 use Rattle.base_syntax.specs.Reader.{Read, read, stopped, got, refused, bind, over}
 use Rattle.base_types.specs.declared.state.ReaderState.{ReaderState}
-use Rattle.header_answer.specs.Answer.{HeaderRead}
-use Rattle.header_answer.specs.Answer.{refused_with}
+use Rattle.header_answer.specs.Answer.{HeaderRead, refused_with}
 use Rattle.header_parser.specs.Answer.{outcome}
 
 module _ {A B : Type 0} (st : ReaderState) (g : A → B) (m : Read A) (f : A → ℕ → HeaderRead) where

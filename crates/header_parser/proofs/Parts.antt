@@ -34,9 +34,8 @@ use Rattle.header_tail.specs.Closing.{read_closing, closing_of, view_closing}
 use Rattle.header_tail.proofs.Steps.{closing_got, closing_short}
 use Rattle.header_record.specs.Record.{independent, cut_length, frame_record}
 use Rattle.header_state.specs.State.{frame_state}
-use Rattle.header_answer.specs.Answer.{HeaderRead}
+use Rattle.header_answer.specs.Answer.{HeaderRead, accepted, refused_with}
 use Rattle.header_parser.specs.Parts.{remembered_color, width_of, finished, settled, framed, shown_header}
-use Rattle.header_answer.specs.Answer.{accepted, refused_with}
 use Rattle.header_parser.specs.Answer.{outcome}
 use Rattle.header_parser.proofs.Outcomes.{came, came_not}
 

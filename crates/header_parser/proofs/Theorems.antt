@@ -20,16 +20,14 @@ use Rattle.base_syntax.proofs.Stopped.{cut_begins, mark_begins}
 use Rattle.base_syntax.proofs.Told.{past_end_exactly, mark_exactly}
 use Rattle.base_size.specs.declared.FrameSize.{FrameSize}
 use Rattle.base_types.specs.declared.state.ReaderState.{ReaderState}
-use Rattle.header_verdict.specs.Verdict.{Verdict}
-use Rattle.header_verdict.specs.Verdict.{Accepted, Refused}
+use Rattle.header_verdict.specs.Verdict.{Verdict, Accepted, Refused}
 use Rattle.grammar_tables.specs.Header.{HeaderValues, shows_existing, header_fields, Spelled}
 use Rattle.grammar_record.specs.Record.{length_of, frame_of, header_of, state_after}
 use Rattle.grammar_tables.specs.Reading.{read_header}
 use Rattle.grammar_tables.proofs.Header.{header_reads, header_size_lem}
-use Rattle.header_answer.specs.Answer.{accepted, refused_with}
+use Rattle.header_answer.specs.Answer.{accepted, refused_with, HeaderRead}
 use Rattle.header_parser.specs.Answer.{outcome, parsed}
 use Rattle.header_parser.specs.Demand.{IsSpelled, AtFault, Demanded}
-use Rattle.header_answer.specs.Answer.{HeaderRead}
 
 module _ (s : List ℕ) (slots : List FrameSize) (v : HeaderValues) where
   short_enough : length (flat (header_fields slots v)) < 2 ^ 64

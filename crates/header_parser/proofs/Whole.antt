@@ -38,9 +38,8 @@ use Rattle.grammar_tables.specs.Header.{HeaderValues, header_fields}
 use Rattle.grammar_record.specs.Record.{length_of, header_of, state_after}
 use Rattle.grammar_tables.specs.Reading.{no_frame, read_frame, read_header}
 use Rattle.grammar_tables.proofs.Header.{header_reads, header_size_lem}
-use Rattle.header_answer.specs.Answer.{HeaderRead}
+use Rattle.header_answer.specs.Answer.{HeaderRead, accepted}
 use Rattle.header_parser.specs.Parts.{remembered_color, width_of, finished, framed, shown_header}
-use Rattle.header_answer.specs.Answer.{accepted}
 use Rattle.header_parser.specs.Answer.{outcome, parsed}
 use Rattle.header_parser.proofs.Outcomes.{outcome_bind, outcome_same}
 use Rattle.header_parser.proofs.Flat.{flat_frame, flat_header, width_from, in_parts_lem, opening_first}

@@ -9,9 +9,8 @@ use Rattle.header_tail.specs.Settings.{read_settings, settings_of}
 use Rattle.header_tail.specs.Closing.{read_closing, closing_of}
 use Rattle.header_record.specs.Record.{independent, cut_length, frame_record}
 use Rattle.header_state.specs.State.{frame_state}
-use Rattle.header_answer.specs.Answer.{HeaderRead}
+use Rattle.header_answer.specs.Answer.{HeaderRead, accepted}
 use Rattle.part_color.specs.declared.Color.{Color}
-use Rattle.header_answer.specs.Answer.{accepted}
 use Rattle.header_parser.specs.Answer.{outcome}
 use Rattle.base_types.specs.declared.header.Header.{Header}
 use Rattle.base_types.specs.Header.{showing_header}
