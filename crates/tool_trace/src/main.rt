@@ -705,25 +705,23 @@ fn answer_frame(
     size: usize,
     series: Series,
 ) -> Series {
-    let read = chunk_frame::parse_frame(s, offset, size, series.state);
-    let verdict = read.place;
+    let mut state = series.state;
+    let read = chunk_frame::parse_frame(s, offset, size, &mut state);
     let place = Place {
         chunk: series.chunk,
         frame: 0,
         at: 0,
         size,
     };
-    let header = read.header;
     let listed = list_single(
         streams,
         form,
         out,
-        verdict.number(),
+        header_verdict::frame_number(&read),
         place,
-        header,
+        read.unwrap_or(Header::DEFAULT),
         listed_before(series),
     );
-    let state = read.state;
     let page = list_state(streams, form, out, state, listed.page);
     let segments = listed.segments;
     after_chunk(series, page, state, segments)
