@@ -11,8 +11,10 @@ use lib.Pow.{pow_mono}
 use borrow.Author.Tests.{lt-ltb, le-ltb, ltb-false, le-leb, lt-leb}
 use Rattle.base_bits.specs.Bit.{bit_at, reach, number, fits}
 use Rattle.base_bits.specs.Read.{read_bits, read_bits_if}
-use Rattle.base_bits.specs.declared.Bits.{Bits}
-use Rattle.base_bits.specs.declared.Bits.TheVariants.{Value, Short, TooWide}
+use Rattle.std.specs.Prelude.{Result, Ok, Err}
+use Rattle.base_bits.specs.declared.BitsError.{BitsError}
+use Rattle.base_bits.specs.declared.BitsError.TheVariants.{Short, TooWide}
+use Rattle.base_bits.specs.declared.Cursor.{Cursor}
 
 pub bit_lt : (s : List ℕ) (p : ℕ) → bit_at s p < 2
 unfolding bit_at
@@ -52,31 +54,31 @@ unfolding fits
 fits_short s p zero h = let z : ◌≡◌ {A = ℕ} 0 1 = cc in absurd (omega arith)
 fits_short s p (suc n) h = (omega arith, omega (arith, ltb-false (p + n) (reach s) h))
 
-pub read_value : (s : List ℕ) (p n : ℕ) {v : ℕ} → v ≡ number s p n → n ≤ 31 → p + n ≤ reach s → Value v (record { at = p + n }) ≡ read_bits s p n
+pub read_value : (s : List ℕ) (p n : ℕ) {v : ℕ} → v ≡ number s p n → n ≤ 31 → p + n ≤ reach s → Ok (v, record { at = p + n }) ≡ read_bits s p n
 unfolding read_bits
 read_value s p n e w h = simp (le-leb n 31 w, fits_yes s p n h, e)
 
-pub read_none : (s : List ℕ) (p : ℕ) → Value 0 (record { at = p }) ≡ read_bits s p 0
+pub read_none : (s : List ℕ) (p : ℕ) → Ok (0, record { at = p }) ≡ read_bits s p 0
 unfolding fits number read_bits
 read_none s p = rw add-zero
 
-pub read_short : (s : List ℕ) (p n : ℕ) → n ≤ 31 → 0 < n → reach s < p + n → Short ≡ read_bits s p n
+pub read_short : (s : List ℕ) (p n : ℕ) → n ≤ 31 → 0 < n → reach s < p + n → Err Short ≡ read_bits s p n
 unfolding read_bits
 read_short s p n w z h = simp (le-leb n 31 w, fits_no s p n z h)
 
-pub read_wide : (s : List ℕ) (p n : ℕ) → 31 < n → TooWide ≡ read_bits s p n
+pub read_wide : (s : List ℕ) (p n : ℕ) → 31 < n → Err TooWide ≡ read_bits s p n
 unfolding read_bits
 read_wide s p n h = simp (lt-leb n 31 h)
 
 -- a field that is there, and one that isn't
-pub there_read : (b : Bool) (s : List ℕ) (p n : ℕ) (r : Bits) → b ≡ true → r ≡ read_bits s p n → r ≡ read_bits_if b s p n
+pub there_read : (b : Bool) (s : List ℕ) (p n : ℕ) (r : Result (ℕ × Cursor) BitsError) → b ≡ true → r ≡ read_bits s p n → r ≡ read_bits_if b s p n
 unfolding read_bits_if
 there_read b s p n r h e = rw h e
 
-pub not_there : (b : Bool) (s : List ℕ) (p n : ℕ) → b ≡ false → Value 0 (record { at = p }) ≡ read_bits_if b s p n
+pub not_there : (b : Bool) (s : List ℕ) (p n : ℕ) → b ≡ false → Ok (0, record { at = p }) ≡ read_bits_if b s p n
 unfolding read_bits_if
 not_there b s p n h = rw h
 
 -- any two answers that meet the promise of `read_bits` are one
-pub one_answer : (s : List ℕ) (p n : ℕ) (r q : Bits) → r ≡ read_bits s p n → q ≡ read_bits s p n → r ≡ q
+pub one_answer : (s : List ℕ) (p n : ℕ) (r q : Result (ℕ × Cursor) BitsError) → r ≡ read_bits s p n → q ≡ read_bits s p n → r ≡ q
 one_answer s p n r q h k = h ∙ sym k

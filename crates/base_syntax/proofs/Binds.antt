@@ -2,9 +2,12 @@
 -- reads.
 -- Assumes nothing.
 use Prim.Native.Nat.{ℕ}
+use Rattle.std.specs.Prelude.{Result}
+use Rattle.base_bits.specs.declared.Cursor.{Cursor}
+use Rattle.base_bits.specs.declared.Refusal.{Refusal}
 use mathlib.Core.Path.{◌≡◌, refl}
 use mathlib.Core.Bool.{Bool, true, false}
-use Rattle.base_syntax.specs.Reader.{Read, read, stopped, bind, Got, over}
+use Rattle.base_syntax.specs.Reader.{Read, read, stopped, bind, over}
 
 pub bind_assoc : {A B C : Type 0} (m : Read A) (k : A → ℕ → Read B) (l : B → ℕ → Read C) → bind (bind m k) l ≡ bind m (λ a p. bind (k a p) l)
 bind_assoc (read a p) k l = refl
@@ -15,7 +18,7 @@ bind_same (read a p) k l h = h a p
 bind_same (stopped w) k l h = refl
 
 -- an answer to a reading is one to its parts
-pub as_parts : {A D : Type 0} (f : A → D) {m n : Read A} {y : Got D} → m ≡ n → y ≡ over f n → y ≡ over f m
+pub as_parts : {A D : Type 0} (f : A → D) {m n : Read A} {y : Result (D × Cursor) Refusal} → m ≡ n → y ≡ over f n → y ≡ over f m
 as_parts f e h = rw e h
 
 -- by a test, whichever way it goes

@@ -5,6 +5,7 @@ use mathlib.Core.Path.{◌≡◌, refl, sym, ap, ◌∙◌}
 use mathlib.Core.Logic.{◌↔◌}
 use mathlib.Core.List.{List, [], ◌∷◌, ◌++◌, append-nil, append_assoc}
 use lib.ListN.{length}
+use Rattle.std.specs.Prelude.{Err}
 use native.Mathlib.Omega.{arith}
 use Rattle.base_bits.specs.declared.Refusal.{Refusal}
 use Rattle.base_bits.specs.declared.Refusal.TheVariants.{PastEnd}
@@ -12,16 +13,16 @@ use Rattle.base_bits.specs.Bit.{bit_at, reach, Stands, spell, missing}
 use Rattle.base_bits.specs.Refusal.{Mark, frame_marker, sync_code, mark_refusal}
 use Rattle.base_syntax.specs.Syntax.{Field, only, Meets, flat, size, Ranged}
 use Rattle.base_syntax.specs.Fault.{Fits, CutOff, Unmarked, Reason, Fault, cut, wrong, Stops, StopsAt, Over, Other}
-use Rattle.base_syntax.specs.Reader.{Read, read, stopped, refused, over, Reader}
+use Rattle.base_syntax.specs.Reader.{Read, read, stopped, over, Reader}
 use Rattle.base_syntax.specs.Law.{Any, Past, Reads}
 use Rattle.base_syntax.proofs.Fields.{fits_join, size_append, length_flat, past_less}
 
 -- the code's refusal e, exactly if the spelling of some values stops for a reason that has it
 told_exactly : {A B : Type 0} {f : A → List Field} {r : Reader A} → Reads Any f r → (g : A → B) (s : List ℕ) (p : ℕ) (e : Refusal)
-    → (over g (r s p) ≡ refused e) ↔ ((a : A) × (w : Reason) × (w.refusal ≡ e) × Ranged (f a) × Stops s p (f a) w)
+    → (over g (r s p) ≡ Err e) ↔ ((a : A) × (w : Reason) × (w.refusal ≡ e) × Ranged (f a) × Stops s p (f a) w)
 told_exactly {A} {B} {f} {r} law g s p e = (λ h. to (r s p) refl h, λ h. rw (law.refuses s p h.1 h.0 tt h.4, h.2))
   where
-    to : (x : Read A) → r s p ≡ x → over g x ≡ refused e → (a : A) × (w : Reason) × (w.refusal ≡ e) × Ranged (f a) × Stops s p (f a) w
+    to : (x : Read A) → r s p ≡ x → over g x ≡ Err e → (a : A) × (w : Reason) × (w.refusal ≡ e) × Ranged (f a) × Stops s p (f a) w
     to (read a q) h k = let z : ◌≡◌ {A = ℕ} 0 1 = cc in absurd (omega arith)
     to (stopped w) h k =
         let we : w.refusal ≡ e = cc in
@@ -55,13 +56,13 @@ module _ {s : List ℕ} {p : ℕ} {fs : List Field} {F G : ℕ → Field → Typ
 
 -- what each number says of the frame: the line of docs/RULES.md's table for 6, and those for 4 and 5
 module _ {A B : Type 0} {f : A → List Field} {r : Reader A} (law : Reads Any f r) (g : A → B) (s : List ℕ) (p : ℕ) where
-  pub past_end_exactly : (over g (r s p) ≡ refused PastEnd) ↔ ((a : A) × Ranged (f a) × CutOff s p (f a))
+  pub past_end_exactly : (over g (r s p) ≡ Err PastEnd) ↔ ((a : A) × Ranged (f a) × CutOff s p (f a))
   past_end_exactly = (
     λ h. let m = (told_exactly law g s p PastEnd).0 h in (m.0, m.3, stops_so m.4 (over_end m.2 m.4.fault)),
     λ h. (told_exactly law g s p PastEnd).1 (h.0, _, refl, h.1, stops_so h.2 (cut h.2.fault refl)),
   )
 
-  pub mark_exactly : (k : Mark) → (over g (r s p) ≡ refused (mark_refusal k)) ↔ ((a : A) × Ranged (f a) × Unmarked s p (f a) k)
+  pub mark_exactly : (k : Mark) → (over g (r s p) ≡ Err (mark_refusal k)) ↔ ((a : A) × Ranged (f a) × Unmarked s p (f a) k)
   mark_exactly k = (
     λ h. let m = (told_exactly law g s p (mark_refusal k)).0 h in (m.0, m.3, stops_so m.4 (other_mark k m.2 m.4.fault)),
     λ h. (told_exactly law g s p (mark_refusal k)).1 (h.0, _, refl, h.1, stops_so h.2 (wrong k h.2.fault refl)),

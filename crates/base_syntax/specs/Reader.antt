@@ -1,8 +1,7 @@
 -- Readings: what stands at a place of the bytes, as a definition that the code is proved equal to.
 -- Assumes nothing.
-use Rattle.std.specs.Prelude.{ℕ, ◌+◌, Bool, List, eqb}
-use Rattle.base_bits.specs.declared.Next.{Next}
-use Rattle.base_bits.specs.declared.Next.TheVariants.{At, Refused}
+use Rattle.std.specs.Prelude.{ℕ, ◌+◌, Bool, List, eqb, Result, Ok, Err}
+use Rattle.base_bits.specs.declared.Cursor.{Cursor}
 use Rattle.base_bits.specs.declared.Refusal.{Refusal}
 use Rattle.base_bits.specs.Bit.{number, fits}
 use Rattle.base_shared.specs.Choice.{pick}
@@ -43,37 +42,20 @@ group_if b d r = pick b r (give d)
 unfoldable pub field_if : Bool → Name → ℕ → Reader ℕ
 field_if b x n = pick b (field x n) (give 0)
 
--- what is answered to a reading: a value and the place past it, or what is kept of the reason
-pub data Told (E A : Type 0) : Type 0 where
-  got : A → ℕ → Told E A
-  refused : E → Told E A
-
--- what f makes of the value, or what `keep` keeps of the reason
-abbrev pub tell : {E A B : Type 0} → (Reason → E) → (A → B) → Read A → Told E B
-tell keep f (read a p) = got (f a) p
-tell keep f (stopped w) = refused (keep w)
+-- what is answered to a reading: what f makes of the value, and the place past it, or what `keep` keeps of the reason
+abbrev pub tell : {E A B : Type 0} → (Reason → E) → (A → B) → Read A → Result (B × Cursor) E
+tell keep f (read a p) = Ok (f a, record { at = p })
+tell keep f (stopped w) = Err (keep w)
 
 -- the code's answer keeps the refusal
 abbrev pub said : Reason → Refusal
 said w = w.refusal
 
-abbrev pub Got : Type 0 → Type 0
-Got A = Told Refusal A
-
--- a value and the place past it, as the code answers them
-abbrev pub valued : {A : Type 0} → A → ℕ → Got A
-valued a p = got a p
-
 -- what the code answers to a reading
-abbrev pub over : {A B : Type 0} → (A → B) → Read A → Got B
+abbrev pub over : {A B : Type 0} → (A → B) → Read A → Result (B × Cursor) Refusal
 over f m = tell said f m
 
--- the code's answer where the value stands beside its place
-abbrev pub view_next : {A : Type 0} → A → Next → Got A
-view_next a (At c) = got a c.at
-view_next a (Refused e) = refused e
-
 -- an answer with what g makes of its value
-abbrev pub alter : {E A B : Type 0} → (A → B) → Told E A → Told E B
-alter g (got a p) = got (g a) p
-alter g (refused e) = refused e
+abbrev pub alter : {E A B : Type 0} → (A → B) → Result (A × Cursor) E → Result (B × Cursor) E
+alter g (Ok x) = Ok (g x.0, x.1)
+alter g (Err e) = Err e

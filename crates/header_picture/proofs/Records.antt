@@ -5,11 +5,14 @@ use mathlib.Core.Path.{◌≡◌}
 use mathlib.Core.List.{List}
 use mir.Val.{Fits}
 use mir.Syntax.{w8}
-use Rattle.base_bits.specs.declared.Bits.{Bits}
-use Rattle.base_bits.specs.declared.Bits.TheVariants.{Value}
+use Rattle.std.specs.Prelude.{Result, Ok}
+use Rattle.std.specs.Result.{result_from_control_flow}
+use Rattle.std.proofs.Common.{Continue}
+use Rattle.base_bits.specs.declared.BitsError.{BitsError}
+use Rattle.base_bits.specs.declared.Refusal.{Refusal}
 use Rattle.base_bits.specs.declared.Cursor.{Cursor}
 use Rattle.base_bits.specs.Read.{read_bits}
-use Rattle.base_syntax.specs.Reader.{got, valued}
+use Rattle.base_syntax.specs.Reader.{over, read}
 use Rattle.base_syntax.proofs.Steps.{value_lt}
 use Rattle.part_color.specs.declared.Color.{Color}
 use Rattle.part_color.specs.Color.{color_of}
@@ -22,15 +25,16 @@ use Rattle.header_picture.specs.Picture.{intra_picture}
 use Rattle.header_picture.specs.Key.{key_of}
 use Rattle.header_picture.specs.IntraOnly.{intra_only_of}
 
-pub refresh_fits : (s : List ℕ) (p : ℕ) (r : Bits) (n : ℕ) (c : Cursor) → r ≡ read_bits s p 8 → r ≡ Value n c → Fits w8 n
-refresh_fits s p r n c e t = record { fits = value_lt s p 8 r n c e t tt }
+pub refresh_fits : (s : List ℕ) (p : ℕ) (r : Result (ℕ × Cursor) BitsError) {b : _} (n : ℕ) (c : Cursor) → r ≡ read_bits s p 8 → r ≡ result_from_control_flow b → b ≡ Continue (n, c) → Fits w8 n
+refresh_fits s p r n c e t i = record { fits = value_lt s p 8 r n c e t i tt }
 
-pub key_read : (profile n p : ℕ) (x : Picture) (c : Color) (z : Sizes) (a : ColorValues) (b : SizesValues) → c ≡ color_of profile a → z ≡ sizes_of b → x ≡ intra_picture c 255 z
-    → valued x p ≡ got (key_of profile (record { frame_sync_code = n; color = a; sizes = b })) p
-unfolding key_of
-key_read profile n p x c z a b ec ez ex = rw (ex, ec, ez)
+module _ (profile n : ℕ) (p : Cursor) (x : Picture) (c : Color) (z : Sizes) (a : ColorValues) (b : SizesValues) where
+  pub key_read : c ≡ color_of profile a → z ≡ sizes_of b → x ≡ intra_picture c 255 z
+      → ◌≡◌ {A = Result (Picture × Cursor) Refusal} (Ok (x, p)) (over (key_of profile) (read (record { frame_sync_code = n; color = a; sizes = b }) p.at))
+  unfolding key_of
+  key_read ec ez ex = rw (ex, ec, ez)
 
-pub intra_only_read : (profile n r p : ℕ) (x : Picture) (c : Color) (z : Sizes) (a : ColorValues) (b : SizesValues) → c ≡ intra_color_of profile a → z ≡ sizes_of b → x ≡ intra_picture c r z
-    → valued x p ≡ got (intra_only_of profile (record { frame_sync_code = n; color = a; refresh_frame_flags = r; sizes = b })) p
-unfolding intra_only_of
-intra_only_read profile n r p x c z a b ec ez ex = rw (ex, ec, ez)
+  pub intra_only_read : (r : ℕ) → c ≡ intra_color_of profile a → z ≡ sizes_of b → x ≡ intra_picture c r z
+      → ◌≡◌ {A = Result (Picture × Cursor) Refusal} (Ok (x, p)) (over (intra_only_of profile) (read (record { frame_sync_code = n; color = a; refresh_frame_flags = r; sizes = b }) p.at))
+  unfolding intra_only_of
+  intra_only_read r ec ez ex = rw (ex, ec, ez)

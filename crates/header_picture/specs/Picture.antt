@@ -1,17 +1,14 @@
--- What the kinds of frame have in common: a picture's record, and the code's answer.
+-- What the kinds of frame have in common: a picture's record.
 -- Assumes nothing.
 use Rattle.std.specs.Prelude.{ℕ, false}
-use Rattle.base_syntax.specs.Reader.{Got, got, refused}
 use Rattle.base_enums.specs.declared.InterpolationFilter.TheVariants.{EightTap}
 use Rattle.part_color.specs.declared.Color.{Color}
 use Rattle.part_sizes.specs.declared.Sizes.{Sizes}
 use Rattle.part_refs.specs.declared.Ref.{Ref}
 use Rattle.part_refs.specs.declared.Refs.{Refs}
 use Rattle.header_picture.specs.declared.Picture.{Picture}
-use Rattle.header_picture.specs.declared.PictureRead.{PictureRead}
-use Rattle.header_picture.specs.declared.PictureRead.TheVariants.{Value, Refused}
 
--- the code's answer
+-- the reference of a frame that reads none
 abbrev pub no_ref : Ref
 no_ref = record { idx = 0; sign_bias = 0 }
 
@@ -28,7 +25,3 @@ intra_picture color refresh sizes =
       sizes = sizes;
       motion = record { allow_high_precision_mv = false; interpolation_filter = EightTap };
     }
-
-abbrev pub view_picture : PictureRead → Got Picture
-view_picture (Value a c) = got a c.at
-view_picture (Refused e) = refused e

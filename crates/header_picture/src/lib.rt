@@ -6,15 +6,14 @@ ghost use Rattle.std.specs.Prelude.{◌≡◌};
 ghost use Rattle.base_syntax.specs.Reader.{over};
 ghost use Rattle.header_picture.specs.Key.{read_key, key_of};
 ghost use Rattle.header_picture.specs.IntraOnly.{read_intra_only, intra_only_of};
-ghost use Rattle.header_picture.specs.Picture.{intra_picture, view_picture};
+ghost use Rattle.header_picture.specs.Picture.{intra_picture};
 
-use base_bits::{Bits, Cursor, Refusal};
+use base_bits::{Cursor, Read};
 use base_enums::InterpolationFilter;
-use part_color::{Color, ColorRead};
+use part_color::Color;
 use part_motion::Motion;
-use part_opening::SyncRead;
 use part_refs::{Ref, Refs, Sources};
-use part_sizes::{Sizes, SizesRead};
+use part_sizes::Sizes;
 
 #[derive(Clone, Copy)]
 pub struct Picture {
@@ -22,12 +21,6 @@ pub struct Picture {
     pub sources: Sources,
     pub sizes: Sizes,
     pub motion: Motion,
-}
-
-#[derive(Clone, Copy)]
-pub enum PictureRead {
-    Value(Picture, Cursor),
-    Refused(Refusal),
 }
 
 impl Picture {
@@ -58,40 +51,22 @@ impl Picture {
     }
 }
 
-pub fn parse_key(s: &[u8], c: Cursor, profile: u32) -> PictureRead
-    ensures { view_picture result ≡ over (key_of profile) (read_key profile s.now c.at) }
+pub fn parse_key(s: &[u8], c: Cursor, profile: u32) -> Read<Picture>
+    ensures { result ≡ over (key_of profile) (read_key profile s.now c.at) }
 {
-    match part_opening::parse_frame_sync_code(s, c) {
-        SyncRead::Refused(e) => PictureRead::Refused(e),
-        SyncRead::Value(c1) => {
-            let ColorRead::Value(color, c2) = part_color::parse_color_config(s, c1, profile) else {
-                return PictureRead::Refused(Refusal::PastEnd);
-            };
-            let SizesRead::Value(sizes, c3) = part_sizes::parse_sizes(s, c2) else {
-                return PictureRead::Refused(Refusal::PastEnd);
-            };
-            PictureRead::Value(Picture::intra(color, 255, sizes), c3)
-        }
-    }
+    let ((), c) = part_opening::parse_frame_sync_code(s, c)?;
+    let (color, c) = part_color::parse_color_config(s, c, profile)?;
+    let (sizes, c) = part_sizes::parse_sizes(s, c)?;
+    Ok((Picture::intra(color, 255, sizes), c))
 }
 
-pub fn parse_intra_only(s: &[u8], c: Cursor, profile: u32) -> PictureRead
-    ensures { view_picture result ≡ over (intra_only_of profile) (read_intra_only profile s.now c.at) }
+pub fn parse_intra_only(s: &[u8], c: Cursor, profile: u32) -> Read<Picture>
+    ensures { result ≡ over (intra_only_of profile) (read_intra_only profile s.now c.at) }
 {
-    match part_opening::parse_frame_sync_code(s, c) {
-        SyncRead::Refused(e) => PictureRead::Refused(e),
-        SyncRead::Value(c1) => {
-            let ColorRead::Value(color, c2) = part_color::parse_intra_color(s, c1, profile) else {
-                return PictureRead::Refused(Refusal::PastEnd);
-            };
-            let Bits::Value(refresh, c3) = base_bits::read_bits(s, c2, 8) else {
-                return PictureRead::Refused(Refusal::PastEnd);
-            };
-            let slots = refresh as u8;
-            let SizesRead::Value(sizes, c4) = part_sizes::parse_sizes(s, c3) else {
-                return PictureRead::Refused(Refusal::PastEnd);
-            };
-            PictureRead::Value(Picture::intra(color, slots, sizes), c4)
-        }
-    }
+    let ((), c) = part_opening::parse_frame_sync_code(s, c)?;
+    let (color, c) = part_color::parse_intra_color(s, c, profile)?;
+    let (refresh, c) = base_bits::read_bits(s, c, 8)?;
+    let slots = refresh as u8;
+    let (sizes, c) = part_sizes::parse_sizes(s, c)?;
+    Ok((Picture::intra(color, slots, sizes), c))
 }

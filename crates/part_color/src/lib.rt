@@ -3,14 +3,13 @@
 
 ghost use Rattle.std.specs.Prelude.{◌≡◌};
 ghost use Rattle.base_syntax.specs.Reader.{over};
-ghost use Rattle.part_color.specs.Color.{color_of, view_color};
+ghost use Rattle.part_color.specs.Color.{color_of};
 ghost use Rattle.grammar_settings.specs.Enums.{depth_of};
 ghost use Rattle.grammar_tables.specs.Reading.{read_color};
 ghost use Rattle.part_color.specs.Intra.{read_intra_color, intra_color_of};
 
-use base_bits::{Bits, Cursor};
+use base_bits::{Cursor, Read};
 use base_enums::{BitDepth, ColorRange, ColorSpace};
-use part_sampling::SamplingRead;
 
 #[derive(Clone, Copy)]
 pub struct Color {
@@ -19,12 +18,6 @@ pub struct Color {
     pub color_range: ColorRange,
     pub subsampling_x: bool,
     pub subsampling_y: bool,
-}
-
-#[derive(Clone, Copy)]
-pub enum ColorRead {
-    Value(Color, Cursor),
-    Short,
 }
 
 // Profiles 0 and 1 have 8 bits.
@@ -41,35 +34,25 @@ fn depth_of(profile: u32, bit: u32) -> BitDepth
     }
 }
 
-pub fn parse_color_config(s: &[u8], c: Cursor, profile: u32) -> ColorRead
-    ensures { view_color result ≡ over (color_of profile) (read_color profile s.now c.at) }
+pub fn parse_color_config(s: &[u8], c: Cursor, profile: u32) -> Read<Color>
+    ensures { result ≡ over (color_of profile) (read_color profile s.now c.at) }
 {
-    let Bits::Value(depth, c1) = base_bits::read_bits_if(s, c, profile >= 2, 1) else {
-        return ColorRead::Short;
+    let (depth, c) = base_bits::read_bits_if(s, c, profile >= 2, 1)?;
+    let (space, c) = base_bits::read_bits(s, c, 3)?;
+    let (sampling, c) = part_sampling::parse_sampling(s, c, profile, space)?;
+    let color = Color {
+        bit_depth: depth_of(profile, depth),
+        color_space: ColorSpace::of_three_bits(space),
+        color_range: sampling.color_range,
+        subsampling_x: sampling.subsampling_x,
+        subsampling_y: sampling.subsampling_y,
     };
-    let Bits::Value(space, c2) = base_bits::read_bits(s, c1, 3) else {
-        return ColorRead::Short;
-    };
-    let SamplingRead::Value(sampling, c3) = part_sampling::parse_sampling(s, c2, profile, space)
-    else {
-        return ColorRead::Short;
-    };
-    let color_range = sampling.color_range;
-    ColorRead::Value(
-        Color {
-            bit_depth: depth_of(profile, depth),
-            color_space: ColorSpace::of_three_bits(space),
-            color_range,
-            subsampling_x: sampling.subsampling_x,
-            subsampling_y: sampling.subsampling_y,
-        },
-        c3,
-    )
+    Ok((color, c))
 }
 
 // The colour of an intra-only frame, which profile 0 doesn't code.
-pub fn parse_intra_color(s: &[u8], c: Cursor, profile: u32) -> ColorRead
-    ensures { view_color result ≡ over (intra_color_of profile) (read_intra_color profile s.now c.at) }
+pub fn parse_intra_color(s: &[u8], c: Cursor, profile: u32) -> Read<Color>
+    ensures { result ≡ over (intra_color_of profile) (read_intra_color profile s.now c.at) }
 {
     if profile > 0 {
         return parse_color_config(s, c, profile);
@@ -81,5 +64,5 @@ pub fn parse_intra_color(s: &[u8], c: Cursor, profile: u32) -> ColorRead
         subsampling_x: true,
         subsampling_y: true,
     };
-    ColorRead::Value(fixed, c)
+    Ok((fixed, c))
 }

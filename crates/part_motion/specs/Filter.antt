@@ -3,11 +3,8 @@
 use Rattle.std.specs.Prelude.{ℕ, not}
 use Rattle.base_bits.specs.Refusal.{the}
 use Rattle.base_syntax.specs.Syntax.{flag}
-use Rattle.base_syntax.specs.Reader.{Got, got, refused, Reader, give, field, field_if, ◌>>=◌}
-use Rattle.base_bits.specs.declared.Refusal.TheVariants.{PastEnd}
+use Rattle.base_syntax.specs.Reader.{Reader, give, field, field_if, ◌>>=◌}
 use Rattle.base_enums.specs.declared.InterpolationFilter.{InterpolationFilter}
-use Rattle.part_motion.specs.declared.FilterRead.{FilterRead}
-use Rattle.part_motion.specs.declared.FilterRead.TheVariants.{Value, Short}
 use Rattle.grammar_settings.specs.Enums.{interpolation_of}
 
 pub record FilterValues : Type 0 where
@@ -27,7 +24,3 @@ read_filter = do
 -- the code's answer
 unfoldable pub filter_of : FilterValues → InterpolationFilter
 filter_of v = interpolation_of v.is_filter_switchable v.raw_interpolation_filter
-
-abbrev pub view_filter : FilterRead → Got InterpolationFilter
-view_filter (Value a c) = got a c.at
-view_filter Short = refused PastEnd

@@ -3,12 +3,9 @@
 use Rattle.std.specs.Prelude.{ℕ}
 use Rattle.base_bits.specs.Refusal.{the}
 use Rattle.base_syntax.specs.Syntax.{flag}
-use Rattle.base_syntax.specs.Reader.{Got, got, refused, Reader, give, field, ◌>>=◌}
-use Rattle.base_bits.specs.declared.Refusal.TheVariants.{PastEnd}
+use Rattle.base_syntax.specs.Reader.{Reader, give, field, ◌>>=◌}
 use Rattle.part_motion.specs.Filter.{FilterValues, no_filter, read_filter, filter_of}
 use Rattle.part_motion.specs.declared.Motion.{Motion}
-use Rattle.part_motion.specs.declared.MotionRead.{MotionRead}
-use Rattle.part_motion.specs.declared.MotionRead.TheVariants.{Value, Short}
 
 pub record MotionValues : Type 0 where
   pub allow_high_precision_mv : ℕ
@@ -27,7 +24,3 @@ read_motion = do
 -- the code's answer
 unfoldable pub motion_of : MotionValues → Motion
 motion_of v = record { allow_high_precision_mv = flag v.allow_high_precision_mv; interpolation_filter = filter_of v.filter }
-
-abbrev pub view_motion : MotionRead → Got Motion
-view_motion (Value a c) = got a c.at
-view_motion Short = refused PastEnd

@@ -3,11 +3,9 @@
 use Rattle.std.specs.Prelude.{ℕ}
 use Rattle.base_bits.specs.Refusal.{the}
 use Rattle.base_syntax.specs.Syntax.{flag}
-use Rattle.base_syntax.specs.Reader.{Got, got, refused, Reader, give, field, field_if, ◌>>=◌}
+use Rattle.base_syntax.specs.Reader.{Reader, give, field, field_if, ◌>>=◌}
 use Rattle.part_opening.specs.Profile.{ProfileValues, read_profile, opening_profile}
 use Rattle.part_opening.specs.declared.Opening.{Opening}
-use Rattle.part_opening.specs.declared.OpeningRead.{OpeningRead}
-use Rattle.part_opening.specs.declared.OpeningRead.TheVariants.{Value, Refused}
 
 pub record OpeningValues : Type 0 where
   pub profile : ProfileValues
@@ -30,7 +28,3 @@ opening_of v =
       show_existing_frame = flag v.show_existing_frame;
       frame_to_show_map_idx = v.frame_to_show_map_idx;
     }
-
-abbrev pub view_opening : OpeningRead → Got Opening
-view_opening (Value a c) = got a c.at
-view_opening (Refused e) = refused e

@@ -2,9 +2,7 @@
 -- Assumes nothing.
 use Rattle.std.specs.Prelude.{ℕ, ◌+◌, ◌*◌, eqb}
 use Rattle.base_bits.specs.Refusal.{the, frame_marker}
-use Rattle.base_syntax.specs.Reader.{Got, got, refused, Reader, give, field, must, field_if, ◌>>=◌}
-use Rattle.part_opening.specs.declared.ProfileRead.{ProfileRead}
-use Rattle.part_opening.specs.declared.ProfileRead.TheVariants.{Value, Refused}
+use Rattle.base_syntax.specs.Reader.{Reader, give, field, must, field_if, ◌>>=◌}
 
 pub record ProfileValues : Type 0 where
   pub frame_marker : ℕ
@@ -24,8 +22,3 @@ read_profile = do
   h ← field (the "profile_high_bit") 1
   z ← field_if (eqb (h * 2 + l) 3) (the "reserved_zero") 1
   give (record { frame_marker = m; profile_low_bit = l; profile_high_bit = h; reserved_zero = z })
-
--- the code's answer
-abbrev pub view_profile : ProfileRead → Got ℕ
-view_profile (Value a c) = got a c.at
-view_profile (Refused e) = refused e

@@ -11,29 +11,35 @@ use mir.Val.{Fits, SFits, to_z, of_z}
 use mir.Facts.{to_z-of_z}
 use mir.Syntax.{w8}
 use borrow.Author.Tests.{eq-eqb, ne_eqb}
-use Rattle.base_bits.specs.declared.Bits.{Bits}
-use Rattle.base_bits.specs.declared.Bits.TheVariants.{Value}
+use Rattle.std.specs.Prelude.{Result, Ok}
+use Rattle.std.specs.Result.{result_from_control_flow}
+use Rattle.std.proofs.Common.{Continue}
+use Rattle.base_bits.specs.declared.BitsError.{BitsError}
 use Rattle.base_bits.specs.declared.Cursor.{Cursor}
+use Rattle.base_bits.specs.declared.Refusal.{Refusal}
 use Rattle.base_bits.specs.Read.{read_bits}
-use Rattle.base_syntax.specs.Reader.{got, valued}
+use Rattle.base_syntax.specs.Reader.{over, read}
 use Rattle.base_syntax.proofs.Steps.{value_lt}
 use Rattle.part_coded.specs.declared.Delta.{Delta}
 use Rattle.part_coded.specs.Delta.{delta_of}
 use Rattle.grammar_tables.specs.Tables.{DeltaValues}
+use Rattle.base_quantization.specs.declared.QuantizationParams.{QuantizationParams}
 use Rattle.grammar_settings.specs.Settings.{quantizer_of, delta_value}
 
-pub base_fits : (s : List ℕ) (p : ℕ) (r : Bits) (n : ℕ) (c : Cursor) → r ≡ read_bits s p 8 → r ≡ Value n c → Fits w8 n
-base_fits s p r n c e t = record { fits = value_lt s p 8 r n c e t tt }
+pub base_fits : (s : List ℕ) (p : ℕ) (r : Result (ℕ × Cursor) BitsError) {b : _} (n : ℕ) (c : Cursor) → r ≡ read_bits s p 8 → r ≡ result_from_control_flow b → b ≡ Continue (n, c) → Fits w8 n
+base_fits s p r n c e d h = record { fits = value_lt s p 8 r n c e d h tt }
 
-pub delta_q_lem : (d : Delta) (v : DeltaValues) (p : ℕ) → d ≡ delta_of v → SFits w8 d.value → valued (to_z w8 (of_z w8 d.value)) p ≡ got (delta_value v) p
+pub delta_q_lem : (d : Delta) (v : DeltaValues) (c : Cursor) → d ≡ delta_of v → SFits w8 d.value
+    → ◌≡◌ {A = Result (ℤ × Cursor) Refusal} (Ok (to_z w8 (of_z w8 d.value), c)) (over delta_value (read v c.at))
 unfolding delta_value delta_of
-delta_q_lem d v p e f = rw (to_z-of_z f, e)
+delta_q_lem d v c e f = rw (to_z-of_z f, e)
 
-pub quantizer : (b p : ℕ) (y d a : ℤ) (yv dv av : DeltaValues) → y ≡ delta_value yv → d ≡ delta_value dv → a ≡ delta_value av → SFits w8 y → SFits w8 d → SFits w8 a
-    → valued (record { base_q_idx = b; delta_q_y_dc = to_z w8 (of_z w8 y); delta_q_uv_dc = to_z w8 (of_z w8 d); delta_q_uv_ac = to_z w8 (of_z w8 a) }) p
-    ≡ got (quantizer_of (record { base_q_idx = b; delta_q_y_dc = yv; delta_q_uv_dc = dv; delta_q_uv_ac = av })) p
+pub quantizer : (b : ℕ) (c : Cursor) (y d a : ℤ) (yv dv av : DeltaValues) → y ≡ delta_value yv → d ≡ delta_value dv → a ≡ delta_value av → SFits w8 y → SFits w8 d → SFits w8 a
+    → ◌≡◌ {A = Result (QuantizationParams × Cursor) Refusal}
+    (Ok (record { base_q_idx = b; delta_q_y_dc = to_z w8 (of_z w8 y); delta_q_uv_dc = to_z w8 (of_z w8 d); delta_q_uv_ac = to_z w8 (of_z w8 a) }, c))
+    (over quantizer_of (read (record { base_q_idx = b; delta_q_y_dc = yv; delta_q_uv_dc = dv; delta_q_uv_ac = av }) c.at))
 unfolding quantizer_of
-quantizer b p y d a yv dv av ey ed ea fy fd fa = rw (to_z-of_z fy, to_z-of_z fd, to_z-of_z fa, ey, ed, ea)
+quantizer b c y d a yv dv av ey ed ea fy fd fa = rw (to_z-of_z fy, to_z-of_z fd, to_z-of_z fa, ey, ed, ea)
 
 -- a number of 8 bits is 0 exactly if its bits are
 bits_zero : (z : ℤ) → SFits w8 z → of_z w8 z ≡ 0 → nat_abs z ≡ 0

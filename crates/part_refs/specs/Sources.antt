@@ -2,14 +2,11 @@
 -- Assumes nothing.
 use Rattle.std.specs.Prelude.{ℕ}
 use Rattle.base_bits.specs.Refusal.{the}
-use Rattle.base_syntax.specs.Reader.{Got, got, refused, Reader, give, field, ◌>>=◌}
-use Rattle.base_bits.specs.declared.Refusal.TheVariants.{PastEnd}
+use Rattle.base_syntax.specs.Reader.{Reader, give, field, ◌>>=◌}
 use Rattle.part_refs.specs.Refs.{refs_of}
 use Rattle.grammar_tables.specs.Tables.{RefsValues}
 use Rattle.grammar_tables.specs.Reading.{no_refs, read_refs}
 use Rattle.part_refs.specs.declared.Sources.{Sources}
-use Rattle.part_refs.specs.declared.SourcesRead.{SourcesRead}
-use Rattle.part_refs.specs.declared.SourcesRead.TheVariants.{Value, Short}
 
 pub record SourcesValues : Type 0 where
   pub refresh_frame_flags : ℕ
@@ -28,7 +25,3 @@ read_sources = do
 -- the code's answer
 unfoldable pub sources_of : SourcesValues → Sources
 sources_of v = record { refresh_frame_flags = v.refresh_frame_flags; refs = refs_of v.refs }
-
-abbrev pub view_sources : SourcesRead → Got Sources
-view_sources (Value a c) = got a c.at
-view_sources Short = refused PastEnd

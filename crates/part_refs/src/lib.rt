@@ -3,11 +3,11 @@
 
 ghost use Rattle.std.specs.Prelude.{◌≡◌};
 ghost use Rattle.base_syntax.specs.Reader.{over};
-ghost use Rattle.part_refs.specs.Refs.{RefIs, refs_of, view_refs};
+ghost use Rattle.part_refs.specs.Refs.{RefIs, refs_of};
 ghost use Rattle.grammar_tables.specs.Reading.{read_refs};
-ghost use Rattle.part_refs.specs.Sources.{read_sources, sources_of, view_sources};
+ghost use Rattle.part_refs.specs.Sources.{read_sources, sources_of};
 
-use base_bits::{Bits, Cursor};
+use base_bits::{Cursor, Read};
 
 // A reference: its slot, and its sign bias.
 #[derive(Clone, Copy)]
@@ -16,29 +16,17 @@ pub struct Ref {
     pub sign_bias: u8,
 }
 
-#[derive(Clone, Copy)]
-pub enum RefRead {
-    Value(Ref, Cursor),
-    Short,
-}
-
 // One reference, whichever of the three it is.
-fn parse_ref(s: &[u8], c: Cursor) -> RefRead
+fn parse_ref(s: &[u8], c: Cursor) -> Read<Ref>
     ensures { RefIs s.now c.at result }
 {
-    let Bits::Value(idx, c1) = base_bits::read_bits(s, c, 3) else {
-        return RefRead::Short;
+    let (idx, c) = base_bits::read_bits(s, c, 3)?;
+    let (sign_bias, c) = base_bits::read_bits(s, c, 1)?;
+    let reference = Ref {
+        idx: idx as u8,
+        sign_bias: sign_bias as u8,
     };
-    let Bits::Value(sign_bias, c2) = base_bits::read_bits(s, c1, 1) else {
-        return RefRead::Short;
-    };
-    RefRead::Value(
-        Ref {
-            idx: idx as u8,
-            sign_bias: sign_bias as u8,
-        },
-        c2,
-    )
+    Ok((reference, c))
 }
 
 #[derive(Clone, Copy)]
@@ -48,32 +36,18 @@ pub struct Refs {
     pub altref: Ref,
 }
 
-#[derive(Clone, Copy)]
-pub enum RefsRead {
-    Value(Refs, Cursor),
-    Short,
-}
-
-fn parse_refs(s: &[u8], c: Cursor) -> RefsRead
-    ensures { view_refs result ≡ over refs_of (read_refs s.now c.at) }
+fn parse_refs(s: &[u8], c: Cursor) -> Read<Refs>
+    ensures { result ≡ over refs_of (read_refs s.now c.at) }
 {
-    let RefRead::Value(last, c1) = parse_ref(s, c) else {
-        return RefsRead::Short;
+    let (last, c) = parse_ref(s, c)?;
+    let (golden, c) = parse_ref(s, c)?;
+    let (altref, c) = parse_ref(s, c)?;
+    let refs = Refs {
+        last,
+        golden,
+        altref,
     };
-    let RefRead::Value(golden, c2) = parse_ref(s, c1) else {
-        return RefsRead::Short;
-    };
-    let RefRead::Value(altref, c3) = parse_ref(s, c2) else {
-        return RefsRead::Short;
-    };
-    RefsRead::Value(
-        Refs {
-            last,
-            golden,
-            altref,
-        },
-        c3,
-    )
+    Ok((refs, c))
 }
 
 // The slots that a frame writes, one to a bit, and those that it reads.
@@ -83,26 +57,14 @@ pub struct Sources {
     pub refs: Refs,
 }
 
-#[derive(Clone, Copy)]
-pub enum SourcesRead {
-    Value(Sources, Cursor),
-    Short,
-}
-
-pub fn parse_sources(s: &[u8], c: Cursor) -> SourcesRead
-    ensures { view_sources result ≡ over sources_of (read_sources s.now c.at) }
+pub fn parse_sources(s: &[u8], c: Cursor) -> Read<Sources>
+    ensures { result ≡ over sources_of (read_sources s.now c.at) }
 {
-    let Bits::Value(refresh, c1) = base_bits::read_bits(s, c, 8) else {
-        return SourcesRead::Short;
+    let (refresh, c) = base_bits::read_bits(s, c, 8)?;
+    let (refs, c) = parse_refs(s, c)?;
+    let sources = Sources {
+        refresh_frame_flags: refresh as u8,
+        refs,
     };
-    let RefsRead::Value(refs, c2) = parse_refs(s, c1) else {
-        return SourcesRead::Short;
-    };
-    SourcesRead::Value(
-        Sources {
-            refresh_frame_flags: refresh as u8,
-            refs,
-        },
-        c2,
-    )
+    Ok((sources, c))
 }

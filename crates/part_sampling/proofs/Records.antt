@@ -4,7 +4,10 @@ use Prim.Native.Nat.{ℕ, ◌≤◌, ◌<◌}
 use mathlib.Core.Path.{◌≡◌}
 use lib.Dec.{eqb, leb}
 use borrow.Author.Tests.{eq-eqb, ne_eqb, le-leb, lt-leb}
-use Rattle.base_syntax.specs.Reader.{got, valued}
+use Rattle.std.specs.Prelude.{Result, Ok}
+use Rattle.base_bits.specs.declared.Cursor.{Cursor}
+use Rattle.base_bits.specs.declared.Refusal.{Refusal}
+use Rattle.base_syntax.specs.Reader.{over, read}
 use Rattle.base_shared.specs.Choice.{pick}
 use Rattle.part_sampling.specs.declared.Sampling.{Sampling}
 use Rattle.part_sampling.specs.Sampling.{sampling_of}
@@ -26,8 +29,8 @@ module _ {A : Type 0} (a b : ℕ) (x p q : A) where
 
 pub ruleset picking = (equal, different, reached, missed)
 
-pub sampling_read : (profile space r x y z p : ℕ) (a : Sampling)
+pub sampling_read : (profile space r x y z : ℕ) (c : Cursor) (a : Sampling)
     → a ≡ record { color_range = range_of space r; subsampling_x = subsampling profile space x; subsampling_y = subsampling profile space y }
-    → valued a p ≡ got (sampling_of profile space (record { color_range = r; subsampling_x = x; subsampling_y = y; reserved_zero = z })) p
+    → ◌≡◌ {A = Result (Sampling × Cursor) Refusal} (Ok (a, c)) (over (sampling_of profile space) (read (record { color_range = r; subsampling_x = x; subsampling_y = y; reserved_zero = z }) c.at))
 unfolding sampling_of
-sampling_read profile space r x y z p a h = rw h
+sampling_read profile space r x y z c a h = rw h

@@ -2,11 +2,8 @@
 -- branches.
 -- Assumes nothing.
 use Rattle.std.specs.Prelude.{ℕ, Bool, not, ◌&&◌}
-use Rattle.base_syntax.specs.Reader.{Got, got, refused, ◌>>=◌, field_if, Reader, give}
-use Rattle.base_bits.specs.declared.Refusal.TheVariants.{PastEnd}
+use Rattle.base_syntax.specs.Reader.{◌>>=◌, field_if, Reader, give}
 use Rattle.part_sampling.specs.declared.Sampling.{Sampling}
-use Rattle.part_sampling.specs.declared.SamplingRead.{SamplingRead}
-use Rattle.part_sampling.specs.declared.SamplingRead.TheVariants.{Value, Short}
 use Rattle.grammar_tables.specs.Tables.{sampled, srgb}
 use Rattle.grammar_settings.specs.Enums.{range_of, subsampling}
 use Rattle.base_bits.specs.Refusal.{the}
@@ -37,7 +34,3 @@ sampling_of profile space v =
       subsampling_x = subsampling profile space v.subsampling_x;
       subsampling_y = subsampling profile space v.subsampling_y;
     }
-
-abbrev pub view_sampling : SamplingRead → Got Sampling
-view_sampling (Value a c) = got a c.at
-view_sampling Short = refused PastEnd

@@ -3,10 +3,10 @@
 
 ghost use Rattle.std.specs.Prelude.{◌≡◌};
 ghost use Rattle.base_syntax.specs.Reader.{over};
-ghost use Rattle.part_sampling.specs.Sampling.{sampling_of, view_sampling, read_sampling};
+ghost use Rattle.part_sampling.specs.Sampling.{sampling_of, read_sampling};
 ghost use Rattle.grammar_settings.specs.Enums.{range_of, subsampling};
 
-use base_bits::{Bits, Cursor};
+use base_bits::{Cursor, Read};
 use base_enums::ColorRange;
 
 // The colour space RGB, which codes neither range nor subsampling.
@@ -17,12 +17,6 @@ pub struct Sampling {
     pub color_range: ColorRange,
     pub subsampling_x: bool,
     pub subsampling_y: bool,
-}
-
-#[derive(Clone, Copy)]
-pub enum SamplingRead {
-    Value(Sampling, Cursor),
-    Short,
 }
 
 // RGB has the full range.
@@ -57,21 +51,13 @@ fn sampling_of(profile: u32, space: u32, range: u32, x: u32, y: u32) -> Sampling
 }
 
 // What color_config() has after color_space.
-pub fn parse_sampling(s: &[u8], c: Cursor, profile: u32, space: u32) -> SamplingRead
-    ensures { view_sampling result ≡ over (sampling_of profile space) (read_sampling profile space s.now c.at) }
+pub fn parse_sampling(s: &[u8], c: Cursor, profile: u32, space: u32) -> Read<Sampling>
+    ensures { result ≡ over (sampling_of profile space) (read_sampling profile space s.now c.at) }
 {
     let coded = (space != CS_RGB) & (profile % 2 == 1);
-    let Bits::Value(range, c1) = base_bits::read_bits_if(s, c, space != CS_RGB, 1) else {
-        return SamplingRead::Short;
-    };
-    let Bits::Value(x, c2) = base_bits::read_bits_if(s, c1, coded, 1) else {
-        return SamplingRead::Short;
-    };
-    let Bits::Value(y, c3) = base_bits::read_bits_if(s, c2, coded, 1) else {
-        return SamplingRead::Short;
-    };
-    let Bits::Value(_, c4) = base_bits::read_bits_if(s, c3, profile % 2 == 1, 1) else {
-        return SamplingRead::Short;
-    };
-    SamplingRead::Value(sampling_of(profile, space, range, x, y), c4)
+    let (range, c) = base_bits::read_bits_if(s, c, space != CS_RGB, 1)?;
+    let (x, c) = base_bits::read_bits_if(s, c, coded, 1)?;
+    let (y, c) = base_bits::read_bits_if(s, c, coded, 1)?;
+    let (_, c) = base_bits::read_bits_if(s, c, profile % 2 == 1, 1)?;
+    Ok((sampling_of(profile, space, range, x, y), c))
 }

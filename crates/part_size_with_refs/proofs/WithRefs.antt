@@ -1,37 +1,31 @@
 -- frame_size_with_refs(): the loop over its flags, the slots, and how it goes on after the flags.
 -- Assumes nothing.
 use Prim.Native.Nat.{ℕ, ◌≤◌, ◌<◌, suc}
-use Prim.Native.String.{String}
-use mathlib.Core.Path.{◌≡◌, refl, sym, ◌∙◌}
+use mathlib.Core.Path.{◌≡◌, refl, sym, ap, ◌∙◌}
 use mathlib.Core.List.{List}
 use native.Mathlib.Omega.{arith}
 use borrow.Author.Tests.{ne_eqb}
-use lib.ListN.{length, get_or-eq_default}
 use Rattle.base_bits.specs.declared.Cursor.{Cursor}
+use Rattle.base_bits.specs.declared.Refusal.{Refusal}
 use Rattle.base_bits.specs.declared.Refusal.TheVariants.{PastEnd}
-use Rattle.base_syntax.specs.Reader.{Got, Read, read, stopped, got, refused, bind, group_if, over, Reader, give, field, field_if, ◌>>=◌, said, valued}
+use Rattle.std.specs.Prelude.{Result, Ok, Err, Option, Some, None}
+use Rattle.std.specs.Result.{IsErrAnd, result_from_control_flow}
+use Rattle.std.proofs.Common.{Continue, Break}
+use Rattle.std.proofs.lemmas.Result.{err_from_is_err_and}
+use Rattle.base_syntax.specs.Reader.{Read, read, stopped, bind, group_if, over, alter, Reader, give, field, field_if, ◌>>=◌, said}
 use Rattle.base_shared.specs.Choice.{pick}
-use Rattle.base_syntax.proofs.Steps.{group_step, group_stop, tail}
+use Rattle.base_syntax.proofs.Steps.{group_step, group_stop, tail, alter_over}
 use Rattle.grammar_tables.specs.Reading.{read_run, no_size_values, read_frame_size, read_render, read_found}
 use Rattle.part_coded.proofs.Run.{Counted, counted_full}
-use Rattle.base_size.specs.FrameSize.{no_size}
 use Rattle.base_size.specs.declared.FrameSize.{FrameSize}
-use Rattle.part_size_with_refs.specs.declared.Found.{Found}
-use Rattle.part_size_with_refs.specs.declared.Found.TheVariants.{At, Nothing, Short}
 use Rattle.part_refs.specs.declared.Refs.{Refs}
 use Rattle.part_sizes.specs.declared.Sizes.{Sizes}
 use Rattle.grammar_tables.specs.Tables.{RenderValues, FoundValues, found_at}
 use Rattle.part_sizes.specs.Sizes.{read_sizes, with_render, sizes_of}
-use Rattle.part_size_with_refs.specs.SizeWithRefs.{read_size_with_refs, slot_size, ref_slot, size_with_refs_of, FoundIs}
+use Rattle.part_size_with_refs.specs.SizeWithRefs.{read_size_with_refs, slot_size, ref_slot, size_with_refs_of, of_three, found_ref}
 use mathlib.Core.Bool.{Bool, true, false, ◌&&◌}
 use lib.Dec.{eqb}
 use Rattle.base_bits.specs.Refusal.{item}
-
--- a loop that counted all n
-pub all_counted : {x : String} {b n : ℕ} {s : List ℕ} {p₀ k p : ℕ} → Counted x b n s p₀ k p → n ≤ k → got n p ≡ over (λ a. a) (read_run x b 0 n s p₀)
-all_counted {x} {b} {n} {s} {p₀} {k} {p} l h =
-    let kn : k ≡ n = omega arith in
-    rw kn at (counted_full l h)
 
 -- the flags as a run of those that are 0: how many there are is the number of the reference
 module _ (s : List ℕ) where
@@ -49,7 +43,7 @@ module _ (s : List ℕ) where
   unfolding read_run found_at
   third l g p el eg = go (field (item "found_ref" 2) 1 s p)
     where
-      bit : (a n : ℕ) (b : Bool) → eqb a 0 ≡ b → over (λ k. suc (suc k)) (pick (eqb a 0) (run 3 0 >>= λ k. give (suc k)) (give 0) s n) ≡ got (found_at (flags l g a)) n
+      bit : (a n : ℕ) (b : Bool) → eqb a 0 ≡ b → over (λ k. suc (suc k)) (pick (eqb a 0) (run 3 0 >>= λ k. give (suc k)) (give 0) s n) ≡ Ok (found_at (flags l g a), record { at = n })
       bit a n true ea = rw (ea, el, eg)
       bit a n false ea = rw (ea, el, eg)
 
@@ -71,7 +65,7 @@ module _ (s : List ℕ) where
       go (stopped w) = refl
       go (read g n) = bit g n (eqb g 0) refl
 
-  pub found_run : (p : ℕ) (x : Got ℕ) → x ≡ over (λ k. k) (run 0 3 s p) → x ≡ over found_at (read_found s p)
+  found_run : (p : ℕ) (x : Result (ℕ × Cursor) Refusal) → x ≡ over (λ k. k) (run 0 3 s p) → x ≡ over found_at (read_found s p)
   unfolding read_run found_at field_if read_found
   found_run p x e = e ∙ go (field (item "found_ref" 0) 1 s p)
     where
@@ -86,9 +80,19 @@ module _ (s : List ℕ) where
       go (stopped w) = refl
       go (read l n) = bit l n (eqb l 0) refl
 
--- past the last slot
-pub no_slot : (slots : List FrameSize) (i : ℕ) (z : FrameSize) → length slots ≡ 8 → 8 ≤ i → z ≡ no_size → z ≡ slot_size slots i
-no_slot slots i z l h e = e ∙ sym (get_or-eq_default slots no_size (omega arith))
+  -- the reference that is found, from what the loop counted
+  module _ (p : ℕ) where
+    as_found : (r : Result (ℕ × Cursor) Refusal) → r ≡ over (λ k. k) (run 0 3 s p) → alter of_three r ≡ over found_ref (read_found s p)
+    as_found r e = ap (alter of_three) (found_run p r e) ∙ alter_over said of_three found_at (read_found s p)
+
+    pub found_one : (i : ℕ) (c : Cursor) → i < 3 → Ok (i, c) ≡ over (λ k. k) (run 0 3 s p) → Ok (Some i, c) ≡ over found_ref (read_found s p)
+    found_one i c l e = rw (ne_eqb i 3 (λ z. omega arith)) at (as_found _ e)
+
+    pub found_nothing : {k : ℕ} (c : Cursor) → Counted "found_ref" 0 3 s p k c.at → 3 ≤ k → Ok (None, c) ≡ over found_ref (read_found s p)
+    found_nothing {k} c l h = let z : k ≡ 3 = omega (arith, l.within) in rw z at (as_found _ (counted_full l h))
+
+    pub found_short : (y : Result (Option ℕ × Cursor) Refusal) → IsErrAnd y (λ w. w ≡ PastEnd) → Err PastEnd ≡ over (λ k. k) (run 0 3 s p) → y ≡ over found_ref (read_found s p)
+    found_short y i e = let j = err_from_is_err_and y i in rw (j.1, j.2) (as_found _ e)
 
 -- two readings that differ only in how they go on
 alike : {A B C D : Type 0} (f : B → D) (g : C → D) (k : A → ℕ → Read B) (l : A → ℕ → Read C) (m : Read A)
@@ -96,32 +100,46 @@ alike : {A B C D : Type 0} (f : B → D) (g : C → D) (k : A → ℕ → Read B
 alike f g k l (read a p) h = h a p
 alike f g k l (stopped w) h = refl
 
-module _ (slots : List FrameSize) (refs : Refs) (s : List ℕ) (p : ℕ) (r : Found) (e : FoundIs s p r) where
+-- a reference that is found is the one that the flags give, and is one of the three
+is_one : (i k : ℕ) → Some i ≡ of_three k → (eqb k 3 ≡ false) × (i ≡ k)
+is_one i k e = go (eqb k 3) refl e
+  where
+    go : (b : Bool) → eqb k 3 ≡ b → Some i ≡ pick b None (Some k) → (eqb k 3 ≡ false) × (i ≡ k)
+    go true h e = let z : ◌≡◌ {A = ℕ} 0 1 = cc in absurd (omega arith)
+    go false h e = (h, cc)
+
+is_none : (k : ℕ) → None ≡ of_three k → eqb k 3 ≡ true
+is_none k e = go (eqb k 3) refl e
+  where
+    go : (b : Bool) → eqb k 3 ≡ b → None ≡ pick b None (Some k) → eqb k 3 ≡ true
+    go true h e = h
+    go false h e = let z : ◌≡◌ {A = ℕ} 0 1 = cc in absurd (omega arith)
+
+module _ (slots : List FrameSize) (refs : Refs) (s : List ℕ) (p : ℕ) (r : Result (Option ℕ × Cursor) Refusal) (e : r ≡ over found_ref (read_found s p)) {b : _} (v : Option ℕ) (c : Cursor) (d : r ≡ result_from_control_flow b) (h : b ≡ Continue (v, c)) (o : Result (Sizes × Cursor) Refusal) where
   -- at the reference i
-  module _ (i : ℕ) (c : Cursor) (h : r ≡ At i c) where
-    pub found_lt : i < 3
-    found_lt = rw h at e.0
-
-    found_size_lem : (frame : FrameSize) (slot q : ℕ) (a : FoundValues) (b : RenderValues) → i ≡ found_at a → slot ≡ ref_slot refs i → frame ≡ slot_size slots slot
-        → valued (with_render frame b) q ≡ got (size_with_refs_of slots refs (record { found_ref = a; size = no_size_values; render = b })) q
+  module _ (i : ℕ) (vi : v ≡ Some i) (frame : FrameSize) (slot : ℕ) (es : slot ≡ ref_slot refs i) (ef : frame ≡ slot_size slots slot) where
+    found_size_lem : (q : ℕ) (a : FoundValues) (b : RenderValues) → eqb (found_at a) 3 ≡ false → i ≡ found_at a
+        → over (with_render frame) (read b q) ≡ over (size_with_refs_of slots refs) (read (record { found_ref = a; size = no_size_values; render = b }) q)
     unfolding size_with_refs_of
-    found_size_lem frame slot q a b ia es ef = rw (← ia, ne_eqb i 3 (λ z. omega (arith, found_lt)), ef, es)
+    found_size_lem q a b n ia = rw (n, ← ia, ef, es)
 
-    pub found_at_lem : (frame : FrameSize) (slot : ℕ) (o : Got Sizes) → slot ≡ ref_slot refs i → frame ≡ slot_size slots slot
-        → o ≡ over (with_render frame) (read_render s c.at) → o ≡ over (size_with_refs_of slots refs) (read_size_with_refs s p)
+    pub found_at_lem : o ≡ over (with_render frame) (read_render s c.at) → o ≡ over (size_with_refs_of slots refs) (read_size_with_refs s p)
     unfolding read_size_with_refs group_if
-    found_at_lem frame slot o es ef eo =
-        group_step said found_at (read_found s p) (size_with_refs_of slots refs) _ i c.at o (rw h at e.1) λ a ia.
-        rw (← ia, ne_eqb i 3 (λ z. omega (arith, found_lt)))
-        (tail said (size_with_refs_of slots refs) _ (with_render frame) (read_render s c.at) o eo (λ b q. found_size_lem frame slot q a b ia es ef))
+    found_at_lem eo =
+        group_step said found_ref (read_found s p) (size_with_refs_of slots refs) _ r e (v, c) o d h λ a va.
+        let m = is_one i (found_at a) (sym vi ∙ va) in
+        rw m.0
+        (tail said (size_with_refs_of slots refs) _ (with_render frame) (read_render s c.at) o eo (λ b q. found_size_lem q a b m.0 m.1))
 
   -- at none
-  pub found_none : (c : Cursor) (o : Got Sizes) → r ≡ Nothing c → o ≡ over sizes_of (read_sizes s c.at) → o ≡ over (size_with_refs_of slots refs) (read_size_with_refs s p)
+  pub found_none : v ≡ None → o ≡ over sizes_of (read_sizes s c.at) → o ≡ over (size_with_refs_of slots refs) (read_size_with_refs s p)
   unfolding read_size_with_refs group_if read_sizes sizes_of size_with_refs_of
-  found_none c o h eo =
-      group_step said found_at (read_found s p) (size_with_refs_of slots refs) _ 3 c.at o (rw h at e.1) λ a ia.
-      rw (← ia) (eo ∙ alike _ _ _ _ (read_frame_size s c.at) (λ z q. alike _ _ _ _ (read_render s q) (λ b n. rw (← ia))))
+  found_none vn eo =
+      group_step said found_ref (read_found s p) (size_with_refs_of slots refs) _ r e (v, c) o d h λ a va.
+      let n = is_none (found_at a) (sym vn ∙ va) in
+      rw n (eo ∙ alike _ _ _ _ (read_frame_size s c.at) (λ z q. alike _ _ _ _ (read_render s q) (λ b m. rw n)))
 
-  pub found_short : r ≡ Short → refused PastEnd ≡ over (size_with_refs_of slots refs) (read_size_with_refs s p)
-  unfolding read_size_with_refs
-  found_short h = group_stop said found_at (read_found s p) (size_with_refs_of slots refs) _ PastEnd (rw h at e.1)
+-- the flags aren't all there
+pub found_stop : (slots : List FrameSize) (refs : Refs) (s : List ℕ) (p : ℕ) (r : Result (Option ℕ × Cursor) Refusal) → r ≡ over found_ref (read_found s p) → {b : _} {z : _} (o : Result (Sizes × Cursor) Refusal) → r ≡ result_from_control_flow b → b ≡ Break z → IsErrAnd o (λ w. w ≡ z.0) → o ≡ over (size_with_refs_of slots refs) (read_size_with_refs s p)
+unfolding read_size_with_refs
+found_stop slots refs s p r e = group_stop said found_ref (read_found s p) (size_with_refs_of slots refs) _ r e

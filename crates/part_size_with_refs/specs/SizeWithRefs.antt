@@ -1,17 +1,15 @@
 -- frame_size_with_refs() (VP9 6.2.5): the size of the first reference whose found_ref is 1, or one of its own; and
 -- the render size.
 -- Assumes nothing.
-use Rattle.std.specs.Prelude.{ℕ, ◌<◌, ◌≡◌, List, [], ◌∷◌, eqb, get_or}
-use Rattle.base_syntax.specs.Reader.{Got, got, refused, Reader, give, group_if, over, ◌>>=◌}
-use Rattle.base_bits.specs.declared.Refusal.TheVariants.{PastEnd}
+use Rattle.std.specs.Prelude.{ℕ, List, [], ◌∷◌, eqb, get_or, Option, Some, None}
+use Rattle.base_shared.specs.Choice.{pick}
+use Rattle.base_syntax.specs.Reader.{Reader, give, group_if, ◌>>=◌}
 use Rattle.base_size.specs.FrameSize.{no_size}
 use Rattle.base_size.specs.declared.FrameSize.{FrameSize}
 use Rattle.part_sizes.specs.Size.{size_or}
 use Rattle.grammar_tables.specs.Tables.{SizeValues, RenderValues, FoundValues, found_at}
 use Rattle.grammar_tables.specs.Reading.{no_size_values, read_frame_size, no_render, read_render, no_found, read_found}
 use Rattle.part_sizes.specs.Sizes.{with_render}
-use Rattle.part_size_with_refs.specs.declared.Found.{Found}
-use Rattle.part_size_with_refs.specs.declared.Found.TheVariants.{At, Nothing, Short}
 use Rattle.part_refs.specs.declared.Refs.{Refs}
 use Rattle.part_sizes.specs.declared.Sizes.{Sizes}
 
@@ -19,6 +17,14 @@ pub record SizeWithRefsValues : Type 0 where
   pub found_ref : FoundValues
   pub size : SizeValues
   pub render : RenderValues
+
+-- the reference of number k; 3 is none
+abbrev pub of_three : ℕ → Option ℕ
+of_three k = pick (eqb k 3) None (Some k)
+
+-- the reference that gives the size, if one does
+abbrev pub found_ref : FoundValues → Option ℕ
+found_ref v = of_three (found_at v)
 
 -- the size that slot i remembers
 abbrev pub slot_size : List FrameSize → ℕ → FrameSize
@@ -47,19 +53,3 @@ read_size_with_refs = do
 -- the code's answer
 unfoldable pub size_with_refs_of : List FrameSize → Refs → SizeWithRefsValues → Sizes
 size_with_refs_of slots refs v = with_render (found_size slots refs v) v.render
-
--- to the flags
-abbrev pub view_found : Found → Got ℕ
-view_found (At i c) = got i c.at
-view_found (Nothing c) = got 3 c.at
-view_found Short = refused PastEnd
-
--- a reference that is found is one of the three
-abbrev pub OfThree : Found → Type 0
-OfThree (At i c) = i < 3
-OfThree (Nothing c) = Unit
-OfThree Short = Unit
-
--- what `find_ref` answers
-abbrev pub FoundIs : List ℕ → ℕ → Found → Type 0
-FoundIs s p r = OfThree r × (view_found r ≡ over found_at (read_found s p))

@@ -1,15 +1,12 @@
 -- frame_size() and render_size(), as key frames and intra_only frames have them (VP9 6.2).
 -- Assumes nothing.
-use Rattle.base_syntax.specs.Reader.{Got, got, refused, Reader, give, ◌>>=◌}
-use Rattle.base_bits.specs.declared.Refusal.TheVariants.{PastEnd}
+use Rattle.base_syntax.specs.Reader.{Reader, give, ◌>>=◌}
 use Rattle.base_size.specs.declared.FrameSize.{FrameSize}
 use Rattle.grammar_tables.specs.Tables.{SizeValues, RenderValues}
 use Rattle.grammar_tables.specs.Reading.{no_size_values, read_frame_size, no_render, read_render}
 use Rattle.grammar_tables.specs.Header.{size_of}
 use Rattle.part_sizes.specs.Render.{render_of}
 use Rattle.part_sizes.specs.declared.Sizes.{Sizes}
-use Rattle.part_sizes.specs.declared.SizesRead.{SizesRead}
-use Rattle.part_sizes.specs.declared.SizesRead.TheVariants.{Value, Short}
 
 pub record SizesValues : Type 0 where
   pub size : SizeValues
@@ -31,7 +28,3 @@ with_render frame v = record { frame = frame; render = render_of frame v }
 
 unfoldable pub sizes_of : SizesValues → Sizes
 sizes_of v = with_render (size_of v.size) v.render
-
-abbrev pub view_sizes : SizesRead → Got Sizes
-view_sizes (Value a c) = got a c.at
-view_sizes Short = refused PastEnd

@@ -5,44 +5,32 @@ ghost use Rattle.std.specs.Prelude.{◌≡◌};
 ghost use Rattle.base_syntax.specs.Reader.{over};
 ghost use Rattle.part_sizes.specs.Size.{SizeIs, SizeOrIs};
 ghost use Rattle.grammar_tables.specs.Reading.{read_render};
-ghost use Rattle.part_sizes.specs.Sizes.{read_sizes, with_render, sizes_of, view_sizes};
+ghost use Rattle.part_sizes.specs.Sizes.{read_sizes, with_render, sizes_of};
 
-use base_bits::{Bits, Cursor};
+use base_bits::{Cursor, Read};
 use base_size::FrameSize;
 
-#[derive(Clone, Copy)]
-pub enum SizeRead {
-    Value(FrameSize, Cursor),
-    Short,
-}
-
 // A size. Its two fields have the names that the caller's table gives them.
-fn parse_frame_size(s: &[u8], c: Cursor) -> SizeRead
+fn parse_frame_size(s: &[u8], c: Cursor) -> Read<FrameSize>
     ensures { SizeIs s.now c.at result }
 {
-    let Bits::Value(width, c1) = base_bits::read_bits(s, c, 16) else {
-        return SizeRead::Short;
+    let (width, c) = base_bits::read_bits(s, c, 16)?;
+    let (height, c) = base_bits::read_bits(s, c, 16)?;
+    let size = FrameSize {
+        width: width + 1,
+        height: height + 1,
     };
-    let Bits::Value(height, c2) = base_bits::read_bits(s, c1, 16) else {
-        return SizeRead::Short;
-    };
-    SizeRead::Value(
-        FrameSize {
-            width: width + 1,
-            height: height + 1,
-        },
-        c2,
-    )
+    Ok((size, c))
 }
 
 // A size that is there only sometimes: another where it isn't, and nothing is read.
-fn size_or(s: &[u8], c: Cursor, there: bool, other: FrameSize) -> SizeRead
+fn size_or(s: &[u8], c: Cursor, there: bool, other: FrameSize) -> Read<FrameSize>
     ensures { SizeOrIs there other s.now c.at result }
 {
     if there {
         parse_frame_size(s, c)
     } else {
-        SizeRead::Value(other, c)
+        Ok((other, c))
     }
 }
 
@@ -58,33 +46,21 @@ pub struct Sizes {
     pub render: Render,
 }
 
-#[derive(Clone, Copy)]
-pub enum SizesRead {
-    Value(Sizes, Cursor),
-    Short,
-}
-
 // A frame's size, and the render size that is read after it.
-pub fn parse_render_size(s: &[u8], c: Cursor, frame: FrameSize) -> SizesRead
-    ensures { view_sizes result ≡ over (with_render frame) (read_render s.now c.at) }
+pub fn parse_render_size(s: &[u8], c: Cursor, frame: FrameSize) -> Read<Sizes>
+    ensures { result ≡ over (with_render frame) (read_render s.now c.at) }
 {
-    let Bits::Value(flag, c1) = base_bits::read_bits(s, c, 1) else {
-        return SizesRead::Short;
-    };
+    let (flag, c) = base_bits::read_bits(s, c, 1)?;
     let different = flag == 1;
-    let SizeRead::Value(size, c2) = size_or(s, c1, different, frame) else {
-        return SizesRead::Short;
-    };
+    let (size, c) = size_or(s, c, different, frame)?;
     let render = Render { different, size };
-    SizesRead::Value(Sizes { frame, render }, c2)
+    Ok((Sizes { frame, render }, c))
 }
 
 // The sizes of a key frame or an intra-only frame.
-pub fn parse_sizes(s: &[u8], c: Cursor) -> SizesRead
-    ensures { view_sizes result ≡ over sizes_of (read_sizes s.now c.at) }
+pub fn parse_sizes(s: &[u8], c: Cursor) -> Read<Sizes>
+    ensures { result ≡ over sizes_of (read_sizes s.now c.at) }
 {
-    let SizeRead::Value(frame, c1) = parse_frame_size(s, c) else {
-        return SizesRead::Short;
-    };
-    parse_render_size(s, c1, frame)
+    let (frame, c) = parse_frame_size(s, c)?;
+    parse_render_size(s, c, frame)
 }

@@ -5,9 +5,9 @@ ghost use Rattle.std.specs.Prelude.{◌≡◌};
 ghost use Rattle.base_syntax.specs.Reader.{over};
 ghost use Rattle.grammar_tables.specs.Reading.{read_run, read_cols, read_tiles};
 ghost use Rattle.grammar_tables.specs.Tables.{superblocks, least, most};
-ghost use Rattle.part_tiles.specs.Tiles.{cols_of, tiles_of, view_count, view_tiles};
+ghost use Rattle.part_tiles.specs.Tiles.{cols_of, tiles_of};
 
-use base_bits::{Bits, Cursor};
+use base_bits::{Cursor, Read};
 
 // The narrowest tile, in superblocks.
 const MIN_TILE_WIDTH_B64: u32 = 4;
@@ -52,69 +52,42 @@ pub struct Tiles {
     pub rows_log2: u8,
 }
 
-#[derive(Clone, Copy)]
-pub enum TilesRead {
-    Value(Tiles, Cursor),
-    Short,
-}
-
-// What a part of it answers: the increments, or the columns.
-#[derive(Clone, Copy)]
-enum CountRead {
-    Value(u8, Cursor),
-    Short,
-}
-
 // How many increments there are: a 0 or the limit ends them.
-fn increments(s: &[u8], c: Cursor, limit: u8) -> CountRead
-    ensures { view_count result ≡ over (λ k. k) (read_run "increment_tile_cols_log2" 1 0 limit s.now c.at) }
+fn increments(s: &[u8], c: Cursor, limit: u8) -> Read<u8>
+    ensures { result ≡ over (λ k. k) (read_run "increment_tile_cols_log2" 1 0 limit s.now c.at) }
 {
-    let mut k: u8 = 0;
     let mut at = c;
-    while k < limit {
-        let Bits::Value(more, next) = base_bits::read_bits(s, at, 1) else {
-            return CountRead::Short;
-        };
+    for k in 0..limit {
+        let (more, next) = base_bits::read_bits(s, at, 1)?;
         if more != 1 {
-            return CountRead::Value(k, next);
+            return Ok((k, next));
         }
         at = next;
-        k += 1;
     }
-    CountRead::Value(k, at)
+    Ok((limit, at))
 }
 
 // The logarithm of the columns: the least, and one more for each increment.
-fn tile_cols(s: &[u8], c: Cursor, width: u32) -> CountRead
-    ensures { view_count result ≡ over (cols_of width) (read_cols width s.now c.at) }
+fn tile_cols(s: &[u8], c: Cursor, width: u32) -> Read<u8>
+    ensures { result ≡ over (cols_of width) (read_cols width s.now c.at) }
 {
     let sb64_cols = superblocks(width);
     let min_log2 = calc_min_log2_tile_cols(sb64_cols);
     let max_log2 = calc_max_log2_tile_cols(sb64_cols);
-    let CountRead::Value(k, c1) = increments(s, c, max_log2 - min_log2) else {
-        return CountRead::Short;
-    };
-    CountRead::Value(min_log2 + k, c1)
+    let (count, c) = increments(s, c, max_log2 - min_log2)?;
+    Ok((min_log2 + count, c))
 }
 
 // The tiles of a frame of any width, 0 too: a remembered size may be anything.
-pub fn parse_tile_info(s: &[u8], c: Cursor, width: u32) -> TilesRead
-    ensures { view_tiles result ≡ over (tiles_of width) (read_tiles width s.now c.at) }
+pub fn parse_tile_info(s: &[u8], c: Cursor, width: u32) -> Read<Tiles>
+    ensures { result ≡ over (tiles_of width) (read_tiles width s.now c.at) }
 {
-    let CountRead::Value(cols_log2, c1) = tile_cols(s, c, width) else {
-        return TilesRead::Short;
+    let (cols_log2, c) = tile_cols(s, c, width)?;
+    let (rows, c) = base_bits::read_bits(s, c, 1)?;
+    let (more, c) = base_bits::read_bits_if(s, c, rows == 1, 1)?;
+    let tiles = Tiles {
+        cols_log2,
+        rows_log2: (rows + more) as u8,
     };
-    let Bits::Value(rows, c2) = base_bits::read_bits(s, c1, 1) else {
-        return TilesRead::Short;
-    };
-    let Bits::Value(more, c3) = base_bits::read_bits_if(s, c2, rows == 1, 1) else {
-        return TilesRead::Short;
-    };
-    TilesRead::Value(
-        Tiles {
-            cols_log2,
-            rows_log2: (rows + more) as u8,
-        },
-        c3,
-    )
+    Ok((tiles, c))
 }

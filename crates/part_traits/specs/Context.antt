@@ -4,11 +4,8 @@ use Rattle.std.specs.Prelude.{ℕ, Bool, true, not}
 use Rattle.base_bits.specs.Refusal.{the}
 use Rattle.base_shared.specs.Choice.{pick}
 use Rattle.base_syntax.specs.Syntax.{flag}
-use Rattle.base_syntax.specs.Reader.{Got, got, refused, Reader, give, field, field_if, ◌>>=◌}
-use Rattle.base_bits.specs.declared.Refusal.TheVariants.{PastEnd}
+use Rattle.base_syntax.specs.Reader.{Reader, give, field, field_if, ◌>>=◌}
 use Rattle.part_traits.specs.declared.Context.{Context}
-use Rattle.part_traits.specs.declared.ContextRead.{ContextRead}
-use Rattle.part_traits.specs.declared.ContextRead.TheVariants.{Value, Short}
 
 pub record ContextValues : Type 0 where
   pub refresh_frame_context : ℕ
@@ -35,7 +32,3 @@ context_of resilient v =
       frame_parallel_decoding_mode = parallel_of resilient v.frame_parallel_decoding_mode;
       frame_context_idx = v.frame_context_idx;
     }
-
-abbrev pub view_context : ContextRead → Got Context
-view_context (Value a c) = got a c.at
-view_context Short = refused PastEnd

@@ -3,11 +3,8 @@
 use Rattle.std.specs.Prelude.{ℕ, Bool, not}
 use Rattle.base_bits.specs.Refusal.{the}
 use Rattle.base_syntax.specs.Syntax.{flag}
-use Rattle.base_syntax.specs.Reader.{Got, got, refused, Reader, give, field_if, ◌>>=◌}
-use Rattle.base_bits.specs.declared.Refusal.TheVariants.{PastEnd}
+use Rattle.base_syntax.specs.Reader.{Reader, give, field_if, ◌>>=◌}
 use Rattle.part_traits.specs.declared.Kind.{Kind}
-use Rattle.part_traits.specs.declared.KindRead.{KindRead}
-use Rattle.part_traits.specs.declared.KindRead.TheVariants.{Value, Short}
 
 pub record KindValues : Type 0 where
   pub intra_only : ℕ
@@ -26,7 +23,3 @@ read_kind shown resilient = do
 -- the code's answer
 unfoldable pub kind_of : KindValues → Kind
 kind_of v = record { intra_only = flag v.intra_only; reset_frame_context = v.reset_frame_context }
-
-abbrev pub view_kind : KindRead → Got Kind
-view_kind (Value a c) = got a c.at
-view_kind Short = refused PastEnd

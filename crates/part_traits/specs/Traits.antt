@@ -3,11 +3,8 @@
 use Rattle.std.specs.Prelude.{ℕ, eqb}
 use Rattle.base_bits.specs.Refusal.{the}
 use Rattle.base_syntax.specs.Syntax.{flag}
-use Rattle.base_syntax.specs.Reader.{Got, got, refused, Reader, give, field, ◌>>=◌}
-use Rattle.base_bits.specs.declared.Refusal.TheVariants.{PastEnd}
+use Rattle.base_syntax.specs.Reader.{Reader, give, field, ◌>>=◌}
 use Rattle.part_traits.specs.declared.Traits.{Traits}
-use Rattle.part_traits.specs.declared.TraitsRead.{TraitsRead}
-use Rattle.part_traits.specs.declared.TraitsRead.TheVariants.{Value, Short}
 
 pub record TraitsValues : Type 0 where
   pub frame_type : ℕ
@@ -30,7 +27,3 @@ traits_of v =
       show_frame = flag v.show_frame;
       error_resilient_mode = flag v.error_resilient_mode;
     }
-
-abbrev pub view_traits : TraitsRead → Got Traits
-view_traits (Value a c) = got a c.at
-view_traits Short = refused PastEnd

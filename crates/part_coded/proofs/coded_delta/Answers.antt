@@ -1,23 +1,24 @@
 use Rattle.base_syntax.proofs.Steps.{reading}
 use Rattle.grammar_tables.specs.Reading.{read_delta}
-use Rattle.part_coded.proofs.Records.{narrow, short_narrow, value_narrow, magnitude_small, delta_read}
+use Rattle.part_coded.proofs.Records.{narrow, magnitude_small, delta_read}
+use Rattle.part_coded.proofs.Steps.{own_stop, own_stop_if}
 use Rattle.part_coded.proofs.coded_delta.Goals as goal
 
-pub returns-in_default : goal.returns-in_default
+pub returns-in_err-flag : goal.returns-in_err-flag
 unfolding read_delta
-returns-in_default c = (short_narrow, λ x y z. search reading)
+returns-in_err-flag c = λ x y z. search own_stop
 
-pub returns-in_default-read_bits_if : goal.returns-in_default-read_bits_if
+pub returns-in_err-magnitude : goal.returns-in_err-magnitude
 unfolding read_delta
-returns-in_default-read_bits_if c = (short_narrow, λ x y z. search (reading, narrow))
+returns-in_err-magnitude c = λ x y z. search (reading, own_stop_if, narrow)
 
-pub returns-in_default-read_bits_if-2 : goal.returns-in_default-read_bits_if-2
+pub returns-in_err-sign : goal.returns-in_err-sign
 unfolding read_delta
-returns-in_default-read_bits_if-2 c = (short_narrow, λ x y z. search (reading, narrow))
+returns-in_err-sign c = λ x y z. search (reading, own_stop_if, narrow)
 
 pub signed_8-value-requires : goal.signed_8-value-requires
 signed_8-value-requires c = search magnitude_small
 
 pub returns : goal.returns
 unfolding read_delta
-returns c = (value_narrow _ _, λ x y z. search (reading, narrow, delta_read))
+returns c = λ x y z. search (reading, narrow, delta_read)

@@ -3,16 +3,16 @@ use Rattle.grammar_tables.specs.Reading.{read_prob}
 use Rattle.part_coded.proofs.Records.{prob_fits, prob_read, prob_none}
 use Rattle.part_coded.proofs.read_prob.Goals as goal
 
-pub returns-in_default : goal.returns-in_default
+pub returns-in_err-coded : goal.returns-in_err-coded
 unfolding read_prob
-returns-in_default c = λ x y. search reading
+returns-in_err-coded c = λ x y. search reading
 
-pub returns-in_default-read_bits_if : goal.returns-in_default-read_bits_if
+pub returns-in_err-prob : goal.returns-in_err-prob
 unfolding read_prob
-returns-in_default-read_bits_if c = λ x y. search reading
+returns-in_err-prob c = λ x y. search reading
 
-pub overflow_cast-result : goal.overflow_cast-result
-overflow_cast-result c = search prob_fits
+pub overflow_cast-prob : goal.overflow_cast-prob
+overflow_cast-prob c = search prob_fits
 
 pub returns-then-coded-eq1 : goal.returns-then-coded-eq1
 unfolding read_prob

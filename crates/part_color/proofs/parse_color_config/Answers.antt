@@ -1,18 +1,17 @@
-use Rattle.part_color.proofs.Parts.{in_parts_lem}
-use Rattle.base_syntax.proofs.Steps.{reading}
+use Rattle.base_syntax.proofs.Steps.{reading, group_step, group_stop}
 use Rattle.base_syntax.proofs.Binds.{as_parts}
+use Rattle.part_color.proofs.Parts.{in_parts_lem}
 use Rattle.part_color.proofs.Records.{color_read}
-use Rattle.part_sampling.proofs.Steps.{sampling_step, sampling_stop}
 use Rattle.part_color.proofs.parse_color_config.Goals as goal
 
-pub returns-in_default : goal.returns-in_default
-returns-in_default c = as_parts _ (in_parts_lem _ _ _) (search reading)
+pub returns-in_err-depth : goal.returns-in_err-depth
+returns-in_err-depth c = as_parts _ (in_parts_lem _ _ _) (search reading)
 
-pub returns-in_default-read_bits : goal.returns-in_default-read_bits
-returns-in_default-read_bits c = as_parts _ (in_parts_lem _ _ _) (search reading)
+pub returns-in_err-space : goal.returns-in_err-space
+returns-in_err-space c = as_parts _ (in_parts_lem _ _ _) (search reading)
 
-pub returns-in_default-parse_sampling : goal.returns-in_default-parse_sampling
-returns-in_default-parse_sampling c = as_parts _ (in_parts_lem _ _ _) (search (reading, sampling_stop))
+pub returns-in_err-sampling : goal.returns-in_err-sampling
+returns-in_err-sampling c = as_parts _ (in_parts_lem _ _ _) (search (reading, group_stop))
 
 pub returns : goal.returns
-returns c = as_parts _ (in_parts_lem _ _ _) (search (reading, sampling_step, color_read))
+returns c = as_parts _ (in_parts_lem _ _ _) (search (reading, group_step, color_read))

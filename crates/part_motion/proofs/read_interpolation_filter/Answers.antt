@@ -3,13 +3,13 @@ use Rattle.part_motion.specs.Filter.{read_filter}
 use Rattle.part_motion.proofs.Records.{switchable, literal}
 use Rattle.part_motion.proofs.read_interpolation_filter.Goals as goal
 
-pub returns-in_default : goal.returns-in_default
+pub returns-in_err-switchable : goal.returns-in_err-switchable
 unfolding read_filter
-returns-in_default c = search reading
+returns-in_err-switchable c = search reading
 
-pub returns-in_default-read_bits_if : goal.returns-in_default-read_bits_if
+pub returns-in_err-literal : goal.returns-in_err-literal
 unfolding read_filter
-returns-in_default-read_bits_if c = search reading
+returns-in_err-literal c = search reading
 
 pub returns-then-switchable-eq1 : goal.returns-then-switchable-eq1
 unfolding read_filter

@@ -1,24 +1,23 @@
-use Rattle.base_syntax.proofs.Steps.{reading}
+use Rattle.base_syntax.proofs.Steps.{reading, group_step, group_stop}
 use Rattle.part_opening.specs.Opening.{read_opening}
 use Rattle.part_opening.proofs.Records.{slot_fits, opening_read}
-use Rattle.part_opening.proofs.Steps.{profile_step, profile_stop}
 use Rattle.part_opening.proofs.parse_opening.Goals as goal
 
-pub returns-in_default : goal.returns-in_default
+pub returns-in_err-profile : goal.returns-in_err-profile
 unfolding read_opening
-returns-in_default c = search (profile_step, reading)
+returns-in_err-profile c = search group_stop
 
-pub returns-in_default-read_bits_if : goal.returns-in_default-read_bits_if
+pub returns-in_err-show : goal.returns-in_err-show
 unfolding read_opening
-returns-in_default-read_bits_if c = search (profile_step, reading)
+returns-in_err-show c = search (group_step, reading)
 
-pub overflow_cast-result : goal.overflow_cast-result
-overflow_cast-result c = search slot_fits
-
-pub returns-in-Refused : goal.returns-in-Refused
+pub returns-in_err-slot : goal.returns-in_err-slot
 unfolding read_opening
-returns-in-Refused c = search profile_stop
+returns-in_err-slot c = search (group_step, reading)
 
-pub returns-in-Value-read_bits_if : goal.returns-in-Value-read_bits_if
+pub overflow_cast-opening : goal.overflow_cast-opening
+overflow_cast-opening c = search slot_fits
+
+pub returns : goal.returns
 unfolding read_opening
-returns-in-Value-read_bits_if c = search (profile_step, reading, opening_read)
+returns c = search (group_step, reading, opening_read)

@@ -5,24 +5,24 @@ use Rattle.part_quantization.proofs.Records.{base_fits, quantizer}
 use borrow.Author.Rules.{rules}
 use Rattle.part_quantization.proofs.parse_quantization_params.Goals as goal
 
-pub returns-in_default : goal.returns-in_default
+pub returns-in_err-base : goal.returns-in_err-base
 unfolding read_quantizer
-returns-in_default c = search reading
+returns-in_err-base c = search reading
 
-pub returns-in_default-read_delta_q : goal.returns-in_default-read_delta_q
+pub returns-in_err-y_dc : goal.returns-in_err-y_dc
 unfolding read_quantizer
-returns-in_default-read_delta_q c = search (reading, delta_q_stop)
+returns-in_err-y_dc c = search (reading, delta_q_stop)
 
-pub returns-in_default-read_delta_q-2 : goal.returns-in_default-read_delta_q-2
+pub returns-in_err-uv_dc : goal.returns-in_err-uv_dc
 unfolding read_quantizer
-returns-in_default-read_delta_q-2 c = search (reading, delta_q_step, delta_q_stop)
+returns-in_err-uv_dc c = search (reading, delta_q_step, delta_q_stop)
 
-pub returns-in_default-read_delta_q-3 : goal.returns-in_default-read_delta_q-3
+pub returns-in_err-uv_ac : goal.returns-in_err-uv_ac
 unfolding read_quantizer
-returns-in_default-read_delta_q-3 c = search (reading, delta_q_step, delta_q_stop)
+returns-in_err-uv_ac c = search (reading, delta_q_step, delta_q_stop)
 
-pub overflow_cast-result : goal.overflow_cast-result
-overflow_cast-result c = search base_fits
+pub overflow_cast-params : goal.overflow_cast-params
+overflow_cast-params c = search base_fits
 
 pub returns : goal.returns
 unfolding read_quantizer

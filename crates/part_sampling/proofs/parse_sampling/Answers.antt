@@ -3,21 +3,21 @@ use Rattle.part_sampling.specs.Sampling.{read_sampling}
 use Rattle.part_sampling.proofs.Records.{sampling_read}
 use Rattle.part_sampling.proofs.parse_sampling.Goals as goal
 
-pub returns-in_default : goal.returns-in_default
+pub returns-in_err-range : goal.returns-in_err-range
 unfolding read_sampling
-returns-in_default c = search reading
+returns-in_err-range c = search reading
 
-pub returns-in_default-read_bits_if : goal.returns-in_default-read_bits_if
+pub returns-in_err-x : goal.returns-in_err-x
 unfolding read_sampling
-returns-in_default-read_bits_if c = search reading
+returns-in_err-x c = search reading
 
-pub returns-in_default-read_bits_if-2 : goal.returns-in_default-read_bits_if-2
+pub returns-in_err-y : goal.returns-in_err-y
 unfolding read_sampling
-returns-in_default-read_bits_if-2 c = search reading
+returns-in_err-y c = search reading
 
-pub returns-in_default-read_bits_if-3 : goal.returns-in_default-read_bits_if-3
+pub returns-in_err-c : goal.returns-in_err-c
 unfolding read_sampling
-returns-in_default-read_bits_if-3 c = search reading
+returns-in_err-c c = search reading
 
 pub returns : goal.returns
 unfolding read_sampling

@@ -4,9 +4,9 @@ use Rattle.part_sizes.proofs.Steps.{size_step, size_stop}
 use Rattle.part_sizes.proofs.Records.{sizes_read}
 use Rattle.part_sizes.proofs.parse_sizes.Goals as goal
 
-pub returns-in_default : goal.returns-in_default
+pub returns-in_err-frame : goal.returns-in_err-frame
 unfolding read_sizes
-returns-in_default c = search size_stop
+returns-in_err-frame c = search size_stop
 
 pub returns : goal.returns
 unfolding read_sizes

@@ -4,8 +4,8 @@ use Rattle.part_tiles.proofs.tile_cols.Goals as goal
 pub overflow_sub-max_log2 : goal.overflow_sub-max_log2
 overflow_sub-max_log2 c = search cols_ordered
 
-pub returns-in_default : goal.returns-in_default
-returns-in_default c = search cols_short
+pub returns-in_err-count : goal.returns-in_err-count
+returns-in_err-count c = search cols_short
 
 pub overflow_add-result : goal.overflow_add-result
 overflow_add-result c = search cols_fit

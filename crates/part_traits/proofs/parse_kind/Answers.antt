@@ -3,16 +3,16 @@ use Rattle.part_traits.specs.Kind.{read_kind, kind_of}
 use Rattle.part_traits.proofs.Records.{reset_fits}
 use Rattle.part_traits.proofs.parse_kind.Goals as goal
 
-pub returns-in_default : goal.returns-in_default
+pub returns-in_err-intra : goal.returns-in_err-intra
 unfolding read_kind
-returns-in_default c = search reading
+returns-in_err-intra c = search reading
 
-pub returns-in_default-read_bits_if : goal.returns-in_default-read_bits_if
+pub returns-in_err-reset : goal.returns-in_err-reset
 unfolding read_kind
-returns-in_default-read_bits_if c = search reading
+returns-in_err-reset c = search reading
 
-pub overflow_cast-result : goal.overflow_cast-result
-overflow_cast-result c = search reset_fits
+pub overflow_cast-kind : goal.overflow_cast-kind
+overflow_cast-kind c = search reset_fits
 
 pub returns : goal.returns
 unfolding read_kind kind_of
