@@ -1,6 +1,7 @@
 pub mod Fields
 pub mod Laws
 pub mod Many
+pub mod Rows
 pub mod Stopped
 pub mod Told
 pub mod Steps

@@ -1,4 +1,3 @@
-pub mod Readings
+pub mod Filling
 pub mod Records
-pub mod Steps
 pub mod Exact

@@ -3,50 +3,29 @@
 
 ghost use Rattle.std.specs.Prelude.{◌≡◌, false};
 ghost use Rattle.base_syntax.specs.Reader.{over};
-ghost use Rattle.part_loop_deltas.specs.LoopDeltas.{view_loop_filter};
 ghost use Rattle.grammar_tables.specs.Reading.{read_loop_filter};
 ghost use Rattle.grammar_settings.specs.Settings.{loop_filter_of};
 
-use base_bits::{Bits, Cursor, Next, Refusal};
+use base_bits::{Cursor, Read};
 use base_loop_filter::LoopFilterParams;
-use part_loop_deltas::LoopFilterRead;
 
-pub fn parse_loop_filter_params(s: &[u8], c: Cursor, old: LoopFilterParams) -> LoopFilterRead
-    ensures answer { view_loop_filter result ≡ over (loop_filter_of false old) (read_loop_filter s.now c.at) }
-    ensures kept { (e : Refusal) → result.next ≡ Next.Refused e → result.lf ≡ old }
+pub fn parse_loop_filter_params(
+    s: &[u8],
+    c: Cursor,
+    old: LoopFilterParams,
+) -> Read<LoopFilterParams>
+    ensures { result ≡ over (loop_filter_of false old) (read_loop_filter s.now c.at) }
 {
-    let short = LoopFilterRead {
-        lf: old,
-        next: Next::Refused(Refusal::PastEnd),
-    };
-    let Bits::Value(level, c1) = base_bits::read_bits(s, c, 6) else {
-        return short;
-    };
-    let Bits::Value(sharpness, c2) = base_bits::read_bits(s, c1, 3) else {
-        return short;
-    };
-    let Bits::Value(enabled, c3) = base_bits::read_bits(s, c2, 1) else {
-        return short;
-    };
+    let (level, c) = base_bits::read_bits(s, c, 6)?;
+    let (sharpness, c) = base_bits::read_bits(s, c, 3)?;
+    let (enabled, c) = base_bits::read_bits(s, c, 1)?;
     let mut lf = old;
     lf.level = level as u8;
     lf.sharpness = sharpness as u8;
     lf.delta_enabled = enabled == 1;
     if enabled == 1 {
-        let r = part_loop_deltas::parse_loop_deltas(s, c3, lf);
-        let next = r.next;
-        match next {
-            Next::At(_) => r,
-            // The level that was read is dropped too.
-            Next::Refused(e) => LoopFilterRead {
-                lf: old,
-                next: Next::Refused(e),
-            },
-        }
+        part_loop_deltas::parse_loop_deltas(s, c, lf)
     } else {
-        LoopFilterRead {
-            lf,
-            next: Next::At(c3),
-        }
+        Ok((lf, c))
     }
 }

@@ -1,12 +1,12 @@
 -- The features' part of segmentation_params() (VP9 6.2.11).
 -- Assumes nothing.
-use Rattle.std.specs.Prelude.{ℕ, Bool, true, false, ◌≡◌, List, ℤ}
+use Rattle.std.specs.Prelude.{ℕ, Bool, true, false, ◌≡◌, List, ℤ, Result}
+use Rattle.base_bits.specs.declared.Cursor.{Cursor}
+use Rattle.base_bits.specs.declared.Refusal.{Refusal}
 use Rattle.base_shared.specs.Choice.{pick}
 use Rattle.base_syntax.specs.Syntax.{flag}
 use Rattle.base_syntax.specs.Reader.{over, ◌>>=◌, field, field_if, group_if, Reader, give}
 use Rattle.base_segmentation.specs.declared.SegmentationParams.{SegmentationParams}
-use Rattle.part_segment_map.specs.declared.SegmentationRead.{SegmentationRead}
-use Rattle.part_segment_map.specs.Answer.{view_segmentation, SegmentationKept}
 use Rattle.part_segment_data.specs.Features.{feature_rows}
 use Rattle.grammar_tables.specs.Tables.{FeatureValues}
 use Rattle.grammar_tables.specs.Reading.{no_features, read_features}
@@ -51,5 +51,5 @@ data_of old v =
     (with_data old false old.abs_or_delta_update old.feature_enabled old.feature_data)
 
 -- what `parse_data` answers, from the remembered settings
-abbrev pub DataIs : List ℕ → ℕ → SegmentationParams → SegmentationRead → Type 0
-DataIs s p old r = (view_segmentation r ≡ over (data_of old) (read_data s p)) × SegmentationKept old r.seg r.next
+abbrev pub DataIs : List ℕ → ℕ → SegmentationParams → Result (SegmentationParams × Cursor) Refusal → Type 0
+DataIs s p old r = r ≡ over (data_of old) (read_data s p)

@@ -3,14 +3,12 @@
 
 ghost use Rattle.std.specs.Prelude.{◌≡◌};
 ghost use Rattle.base_syntax.specs.Reader.{over};
-ghost use Rattle.part_segment_data.specs.Features.{feature_rows, view_features};
+ghost use Rattle.part_segment_data.specs.Features.{feature_rows};
 ghost use Rattle.grammar_tables.specs.Reading.{read_features};
 ghost use Rattle.part_segment_data.specs.Data.{DataIs};
 
-use base_bits::{Bits, Cursor, Next, Refusal};
+use base_bits::{Cursor, Read};
 use base_segmentation::SegmentationParams;
-use part_feature::FeatureRead;
-use part_segment_map::SegmentationRead;
 
 // The features of all segments, segment after segment in each row.
 #[derive(Clone, Copy)]
@@ -19,80 +17,39 @@ struct Features {
     values: [i16; SegmentationParams::FEATURES],
 }
 
-#[derive(Clone, Copy)]
-struct FeaturesRead {
-    features: Features,
-    next: Next,
-}
-
-fn parse_features(s: &[u8], c: Cursor) -> FeaturesRead
-    ensures { view_features result ≡ over feature_rows (read_features s.now c.at) }
+fn parse_features(s: &[u8], c: Cursor) -> Read<Features>
+    ensures { result ≡ over feature_rows (read_features s.now c.at) }
 {
     let mut enabled = [false; SegmentationParams::FEATURES];
     let mut values = [0; SegmentationParams::FEATURES];
     let mut at = c;
     for k in 0..SegmentationParams::FEATURES {
-        let FeatureRead::Value(f, e) = part_feature::parse_feature(
+        let (feature, next) = part_feature::parse_feature(
             s,
             at,
             k % SegmentationParams::SEG_LVL_MAX,
-        ) else {
-            return FeaturesRead {
-                features: Features { enabled, values },
-                next: Next::Refused(Refusal::PastEnd),
-            };
-        };
-        let value = f.value;
-        enabled[k] = f.enabled;
-        values[k] = value;
-        at = e;
+        )?;
+        enabled[k] = feature.enabled;
+        values[k] = feature.value;
+        at = next;
     }
-    FeaturesRead {
-        features: Features { enabled, values },
-        next: Next::At(at),
-    }
+    Ok((Features { enabled, values }, at))
 }
 
 // The features' part. Without an update they keep their values; with one, a disabled feature's value becomes 0.
-pub fn parse_data(s: &[u8], c: Cursor, old: SegmentationParams) -> SegmentationRead
+pub fn parse_data(s: &[u8], c: Cursor, old: SegmentationParams) -> Read<SegmentationParams>
     ensures { DataIs s.now c.at old result }
 {
-    let Bits::Value(update, c1) = base_bits::read_bits(s, c, 1) else {
-        return SegmentationRead {
-            seg: old,
-            next: Next::Refused(Refusal::PastEnd),
-        };
-    };
-    let Bits::Value(absolute, c2) = base_bits::read_bits_if(s, c1, update == 1, 1) else {
-        return SegmentationRead {
-            seg: old,
-            next: Next::Refused(Refusal::PastEnd),
-        };
-    };
+    let (update, c) = base_bits::read_bits(s, c, 1)?;
+    let (absolute, c) = base_bits::read_bits_if(s, c, update == 1, 1)?;
     let mut seg = old;
     seg.update_data = update == 1;
     if update != 1 {
-        return SegmentationRead {
-            seg,
-            next: Next::At(c2),
-        };
+        return Ok((seg, c));
     }
-    let read = parse_features(s, c2);
-    let after = read.next;
-    let Next::At(c3) = after else {
-        return SegmentationRead {
-            seg: old,
-            next: after,
-        };
-    };
-    let features = read.features;
-    let feature_enabled = features.enabled;
-    let feature_data = features.values;
+    let (Features { enabled, values }, c) = parse_features(s, c)?;
     seg.abs_or_delta_update = absolute == 1;
-    seg.feature_enabled = feature_enabled;
-    seg.feature_data = feature_data;
-    SegmentationRead {
-        seg,
-        next: Next::At(c3),
-    }
+    seg.feature_enabled = enabled;
+    seg.feature_data = values;
+    Ok((seg, c))
 }

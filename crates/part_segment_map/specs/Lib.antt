@@ -1,3 +1,2 @@
 pub mod Probs
-pub mod Answer
 pub mod Map

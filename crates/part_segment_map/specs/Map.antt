@@ -1,13 +1,13 @@
 -- The map's part of segmentation_params() (VP9 6.2.11).
 -- Assumes nothing.
-use Rattle.std.specs.Prelude.{ℕ, Bool, true, false, ◌≡◌, List}
+use Rattle.std.specs.Prelude.{ℕ, Bool, true, false, ◌≡◌, List, Result}
+use Rattle.base_bits.specs.declared.Cursor.{Cursor}
+use Rattle.base_bits.specs.declared.Refusal.{Refusal}
 use Rattle.base_shared.specs.Choice.{pick}
 use Rattle.base_syntax.specs.Syntax.{flag}
 use Rattle.base_syntax.specs.Reader.{over, ◌>>=◌, field, field_if, group_if, Reader, give}
 use Rattle.grammar_settings.specs.Settings.{prob_of}
 use Rattle.base_segmentation.specs.declared.SegmentationParams.{SegmentationParams}
-use Rattle.part_segment_map.specs.declared.SegmentationRead.{SegmentationRead}
-use Rattle.part_segment_map.specs.Answer.{view_segmentation, SegmentationKept}
 use Rattle.base_syntax.specs.Many.{each_of, Times}
 use Rattle.grammar_tables.specs.Tables.{ProbValues}
 use Rattle.grammar_tables.specs.Reading.{no_probs, read_probs}
@@ -53,5 +53,5 @@ map_of old v =
     (with_map old false old.tree_probs old.pred_probs old.temporal_update)
 
 -- what `parse_map` answers, from the remembered settings
-abbrev pub MapIs : List ℕ → ℕ → SegmentationParams → SegmentationRead → Type 0
-MapIs s p old r = (view_segmentation r ≡ over (map_of old) (read_map s p)) × SegmentationKept old r.seg r.next
+abbrev pub MapIs : List ℕ → ℕ → SegmentationParams → Result (SegmentationParams × Cursor) Refusal → Type 0
+MapIs s p old r = r ≡ over (map_of old) (read_map s p)

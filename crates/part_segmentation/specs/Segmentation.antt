@@ -1,10 +1,10 @@
 -- segmentation_params() (VP9 6.2.11).
 -- Assumes nothing.
-use Rattle.std.specs.Prelude.{ℕ, Bool, false, ◌≡◌, List}
+use Rattle.std.specs.Prelude.{ℕ, Bool, false, ◌≡◌, List, Result}
+use Rattle.base_bits.specs.declared.Cursor.{Cursor}
+use Rattle.base_bits.specs.declared.Refusal.{Refusal}
 use Rattle.base_syntax.specs.Reader.{over}
 use Rattle.base_segmentation.specs.declared.SegmentationParams.{SegmentationParams}
-use Rattle.part_segment_map.specs.Answer.{view_segmentation, SegmentationKept}
-use Rattle.part_segment_map.specs.declared.SegmentationRead.{SegmentationRead}
 use Rattle.grammar_settings.specs.Settings.{segmentation_of}
 use Rattle.grammar_tables.specs.Reading.{read_segmentation}
 
@@ -24,5 +24,5 @@ switched old on =
     }
 
 -- what `parse_segmentation_params` answers, from the remembered settings
-abbrev pub SegmentationIs : List ℕ → ℕ → SegmentationParams → SegmentationRead → Type 0
-SegmentationIs s p old r = (view_segmentation r ≡ over (segmentation_of false old) (read_segmentation s p)) × SegmentationKept old r.seg r.next
+abbrev pub SegmentationIs : List ℕ → ℕ → SegmentationParams → Result (SegmentationParams × Cursor) Refusal → Type 0
+SegmentationIs s p old r = r ≡ over (segmentation_of false old) (read_segmentation s p)

@@ -15,11 +15,11 @@ const MIN_TILE_WIDTH_B64: u32 = 4;
 // The widest, as a u64, so that no shift below loses a bit.
 const MAX_TILE_WIDTH_B64: u64 = 64;
 
-// A width in superblocks, by a sum of 64 bits, which no width wraps.
+// A width in superblocks. No sum is made, so no width wraps.
 fn superblocks(width: u32) -> u32
     ensures { result ≡ superblocks width }
 {
-    ((width as u64 + 63) / 64) as u32
+    width.div_ceil(64)
 }
 
 // The logarithm of the fewest columns whose tiles aren't too wide.

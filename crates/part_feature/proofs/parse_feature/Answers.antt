@@ -4,17 +4,17 @@ use Rattle.part_feature.proofs.Records.{value_fits, feature_read}
 use Rattle.part_feature.proofs.Tables.{value_step, value_stop}
 use Rattle.part_feature.proofs.parse_feature.Goals as goal
 
-pub returns-in_default : goal.returns-in_default
+pub returns-in_err-flag : goal.returns-in_err-flag
 unfolding read_feature
-returns-in_default c = λ i. search reading
+returns-in_err-flag c = λ i. search reading
 
-pub returns-in_default-read_bits_if : goal.returns-in_default-read_bits_if
+pub returns-in_err-magnitude : goal.returns-in_err-magnitude
 unfolding read_feature
-returns-in_default-read_bits_if c = λ i. search (reading, value_stop)
+returns-in_err-magnitude c = λ i. search (reading, value_stop)
 
-pub returns-in_default-read_bits_if-2 : goal.returns-in_default-read_bits_if-2
+pub returns-in_err-sign : goal.returns-in_err-sign
 unfolding read_feature
-returns-in_default-read_bits_if-2 c = λ i. search (reading, value_step)
+returns-in_err-sign c = λ i. search (reading, value_step)
 
 pub overflow_cast-magnitude : goal.overflow_cast-magnitude
 overflow_cast-magnitude c = search value_fits

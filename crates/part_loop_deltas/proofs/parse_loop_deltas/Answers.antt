@@ -1,26 +1,25 @@
-use Rattle.base_syntax.proofs.Steps.{reading}
+use borrow.Author.Tests.{eq-eqb, ne_eqb}
+use Rattle.base_syntax.proofs.Steps.{reading, group_step, group_stop}
 use Rattle.part_loop_deltas.specs.LoopDeltas.{read_loop_deltas}
-use Rattle.part_loop_deltas.proofs.Steps.{refs_step, refs_stop, modes_step, modes_stop}
-use Rattle.part_loop_deltas.proofs.Readings.{group_left}
-use Rattle.part_loop_deltas.proofs.Records.{deltas_moved, deltas_kept}
+use Rattle.part_loop_deltas.proofs.Records.{refs_read, modes_read, deltas_moved, deltas_kept}
 use Rattle.part_loop_deltas.proofs.parse_loop_deltas.Goals as goal
 
-pub returns-in_default : goal.returns-in_default
+pub returns-in_err-update : goal.returns-in_err-update
 unfolding read_loop_deltas
-returns-in_default c = search reading
+returns-in_err-update c = search reading
 
-pub returns-in_default-read_ref_deltas : goal.returns-in_default-read_ref_deltas
+pub returns-then-update-ne1 : goal.returns-then-update-ne1
 unfolding read_loop_deltas
-returns-in_default-read_ref_deltas c = search (reading, refs_stop)
+returns-then-update-ne1 c = search (reading, ne_eqb, deltas_kept)
 
-pub returns-in_default-read_mode_deltas : goal.returns-in_default-read_mode_deltas
+pub returns-in_err-coded : goal.returns-in_err-coded
 unfolding read_loop_deltas
-returns-in_default-read_mode_deltas c = search (reading, refs_step, modes_stop)
+returns-in_err-coded c = search (reading, eq-eqb, group_stop, refs_read)
 
-pub returns-in-Value-read_mode_deltas-clause-answer : goal.returns-in-Value-read_mode_deltas-clause-answer
+pub returns-in_err-coded-2 : goal.returns-in_err-coded-2
 unfolding read_loop_deltas
-returns-in-Value-read_mode_deltas-clause-answer c = search (reading, refs_step, modes_step, deltas_moved)
+returns-in_err-coded-2 c = search (reading, eq-eqb, group_step, group_stop, refs_read, modes_read) depth 8
 
-pub returns-else-update-eq1-clause-answer : goal.returns-else-update-eq1-clause-answer
+pub returns : goal.returns
 unfolding read_loop_deltas
-returns-else-update-eq1-clause-answer c = search (reading, group_left, deltas_kept)
+returns c = search (reading, eq-eqb, group_step, refs_read, modes_read, deltas_moved) depth 8

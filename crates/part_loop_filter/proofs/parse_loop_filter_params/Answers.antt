@@ -1,19 +1,18 @@
+use borrow.Author.Tests.{eq-eqb, ne_eqb}
 use Rattle.base_syntax.proofs.Binds.{as_parts}
-use Rattle.base_syntax.proofs.Steps.{reading}
-use Rattle.part_loop_deltas.proofs.Readings.{group_left, group_taken, group_tail}
-use Rattle.part_loop_deltas.proofs.Steps.{settings_stop}
+use Rattle.base_syntax.proofs.Steps.{reading, tail}
 use Rattle.part_loop_filter.proofs.Parts.{in_parts_lem}
 use Rattle.part_loop_filter.proofs.Records.{byte_fits, filter_moved, filter_plain}
 use Rattle.part_loop_filter.proofs.parse_loop_filter_params.Goals as goal
 
-pub returns-in_default-clause-answer : goal.returns-in_default-clause-answer
-returns-in_default-clause-answer c = as_parts _ (in_parts_lem _ _) (search reading)
+pub returns-in_err-level : goal.returns-in_err-level
+returns-in_err-level c = as_parts _ (in_parts_lem _ _) (search reading)
 
-pub returns-in_default-read_bits-clause-answer : goal.returns-in_default-read_bits-clause-answer
-returns-in_default-read_bits-clause-answer c = as_parts _ (in_parts_lem _ _) (search reading)
+pub returns-in_err-sharpness : goal.returns-in_err-sharpness
+returns-in_err-sharpness c = as_parts _ (in_parts_lem _ _) (search reading)
 
-pub returns-in_default-read_bits-2-clause-answer : goal.returns-in_default-read_bits-2-clause-answer
-returns-in_default-read_bits-2-clause-answer c = as_parts _ (in_parts_lem _ _) (search reading)
+pub returns-in_err-enabled : goal.returns-in_err-enabled
+returns-in_err-enabled c = as_parts _ (in_parts_lem _ _) (search reading)
 
 pub overflow_cast-lf : goal.overflow_cast-lf
 overflow_cast-lf c = search byte_fits
@@ -21,11 +20,8 @@ overflow_cast-lf c = search byte_fits
 pub overflow_cast-lf-2 : goal.overflow_cast-lf-2
 overflow_cast-lf-2 c = search byte_fits
 
-pub returns-in-At-clause-answer : goal.returns-in-At-clause-answer
-returns-in-At-clause-answer c = as_parts _ (in_parts_lem _ _) (search (reading, group_tail, filter_moved))
+pub returns-then-enabled-eq1 : goal.returns-then-enabled-eq1
+returns-then-enabled-eq1 c = as_parts _ (in_parts_lem _ _) (search (reading, eq-eqb, tail, filter_moved) depth 8)
 
-pub returns-in-Refused-clause-answer : goal.returns-in-Refused-clause-answer
-returns-in-Refused-clause-answer c = as_parts _ (in_parts_lem _ _) (search (reading, group_taken, settings_stop))
-
-pub returns-else-enabled-eq1-clause-answer : goal.returns-else-enabled-eq1-clause-answer
-returns-else-enabled-eq1-clause-answer c = as_parts _ (in_parts_lem _ _) (search (reading, group_left, filter_plain))
+pub returns-else-enabled-eq1 : goal.returns-else-enabled-eq1
+returns-else-enabled-eq1 c = as_parts _ (in_parts_lem _ _) (search (reading, ne_eqb, filter_plain) depth 8)

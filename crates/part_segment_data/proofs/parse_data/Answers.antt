@@ -1,27 +1,25 @@
-use mathlib.Core.Path.{refl}
-use Rattle.base_syntax.proofs.Steps.{reading}
+use Rattle.base_syntax.proofs.Steps.{reading, group_step, group_stop}
+use borrow.Author.Tests.{eq-eqb, ne_eqb}
 use Rattle.part_segment_data.specs.Data.{read_data}
 use Rattle.part_segment_data.proofs.Records.{data_read, data_kept}
-use Rattle.part_segment_map.proofs.Records.{old_kept}
-use Rattle.part_segment_map.proofs.Steps.{there_step, there_stop, absent}
 use Rattle.part_segment_data.proofs.parse_data.Goals as goal
 
-pub returns-in_default : goal.returns-in_default
+pub returns-in_err-update : goal.returns-in_err-update
 unfolding read_data
-returns-in_default c = (search reading, refl)
+returns-in_err-update c = search reading
 
-pub returns-in_default-read_bits_if : goal.returns-in_default-read_bits_if
+pub returns-in_err-absolute : goal.returns-in_err-absolute
 unfolding read_data
-returns-in_default-read_bits_if c = (search reading, refl)
+returns-in_err-absolute c = search reading
 
 pub returns-then-update-ne1 : goal.returns-then-update-ne1
 unfolding read_data
-returns-then-update-ne1 c = (search (reading, absent, data_kept), tt)
+returns-then-update-ne1 c = search (reading, ne_eqb, data_kept)
 
-pub returns-in_default-after : goal.returns-in_default-after
+pub returns-in_err-enabled : goal.returns-in_err-enabled
 unfolding read_data
-returns-in_default-after c = (search (reading, there_stop), search old_kept)
+returns-in_err-enabled c = search (reading, eq-eqb, group_stop)
 
 pub returns : goal.returns
 unfolding read_data
-returns c = (search (reading, there_step, data_read), tt)
+returns c = search (reading, eq-eqb, group_step, data_read)

@@ -1,30 +1,29 @@
-use mathlib.Core.Path.{refl}
 use Rattle.base_syntax.proofs.Steps.{reading}
 use Rattle.part_segment_map.specs.Map.{read_map}
 use Rattle.part_segment_map.proofs.Steps.{probs_step, probs_stop}
-use Rattle.part_segment_map.proofs.Records.{map_read, map_kept, old_kept}
+use Rattle.part_segment_map.proofs.Records.{map_read, map_kept}
 use Rattle.part_segment_map.proofs.parse_map.Goals as goal
 
-pub returns-in_default : goal.returns-in_default
+pub returns-in_err-update : goal.returns-in_err-update
 unfolding read_map
-returns-in_default c = (search reading, refl)
+returns-in_err-update c = search reading
 
-pub returns-in_default-after_tree : goal.returns-in_default-after_tree
+pub returns-in_err-tree_probs : goal.returns-in_err-tree_probs
 unfolding read_map
-returns-in_default-after_tree c = (search (reading, probs_stop), search old_kept)
+returns-in_err-tree_probs c = search (reading, probs_stop)
 
-pub returns-in_default-read_bits_if : goal.returns-in_default-read_bits_if
+pub returns-in_err-temporal : goal.returns-in_err-temporal
 unfolding read_map
-returns-in_default-read_bits_if c = (search (reading, probs_step), refl)
+returns-in_err-temporal c = search (reading, probs_step)
 
-pub returns-in_default-after_pred : goal.returns-in_default-after_pred
+pub returns-in_err-pred_probs : goal.returns-in_err-pred_probs
 unfolding read_map
-returns-in_default-after_pred c = (search (reading, probs_step, probs_stop), search old_kept)
+returns-in_err-pred_probs c = search (reading, probs_step, probs_stop)
 
 pub returns-then-update-eq1 : goal.returns-then-update-eq1
 unfolding read_map
-returns-then-update-eq1 c = (search (reading, probs_step, map_read), tt)
+returns-then-update-eq1 c = search (reading, probs_step, map_read)
 
 pub returns-else-update-eq1 : goal.returns-else-update-eq1
 unfolding read_map
-returns-else-update-eq1 c = (search (reading, probs_step, map_kept), tt)
+returns-else-update-eq1 c = search (reading, probs_step, map_kept)

@@ -1,23 +1,18 @@
-use mathlib.Core.Path.{refl}
-use Rattle.base_syntax.proofs.Steps.{reading}
+use borrow.Author.Tests.{eq-eqb, ne_eqb}
+use Rattle.base_syntax.proofs.Steps.{reading, group_step, group_stop, tail}
 use Rattle.base_syntax.proofs.Binds.{as_parts}
-use Rattle.part_segment_map.proofs.Records.{old_kept, none_kept}
-use Rattle.part_segment_map.proofs.Steps.{there_step, there_stop, absent}
 use Rattle.part_segmentation.proofs.Parts.{in_parts_lem}
 use Rattle.part_segmentation.proofs.Records.{off_read, parts_read}
 use Rattle.part_segmentation.proofs.parse_segmentation_params.Goals as goal
 
-pub returns-in_default : goal.returns-in_default
-returns-in_default c = (as_parts _ (in_parts_lem _ _) (search reading), refl)
+pub returns-in_err-enabled : goal.returns-in_err-enabled
+returns-in_err-enabled c = as_parts _ (in_parts_lem _ _) (search reading)
 
 pub returns-then-enabled-ne1 : goal.returns-then-enabled-ne1
-returns-then-enabled-ne1 c = (as_parts _ (in_parts_lem _ _) (search (reading, absent, off_read)), tt)
+returns-then-enabled-ne1 c = as_parts _ (in_parts_lem _ _) (search (reading, ne_eqb, off_read))
 
-pub returns-in_default-after_map : goal.returns-in_default-after_map
-returns-in_default-after_map c = (as_parts _ (in_parts_lem _ _) (search (reading, there_stop)), search old_kept)
-
-pub returns-in_default-after_data : goal.returns-in_default-after_data
-returns-in_default-after_data c = (as_parts _ (in_parts_lem _ _) (search (reading, there_step, there_stop)), search old_kept)
+pub returns-in_err-seg : goal.returns-in_err-seg
+returns-in_err-seg c = as_parts _ (in_parts_lem _ _) (search (reading, eq-eqb, group_stop))
 
 pub returns : goal.returns
-returns c = (as_parts _ (in_parts_lem _ _) (search (reading, there_step, parts_read)), search none_kept)
+returns c = as_parts _ (in_parts_lem _ _) (search (reading, eq-eqb, group_step, tail, parts_read) depth 8)
