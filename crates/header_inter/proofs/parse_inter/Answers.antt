@@ -1,22 +1,20 @@
-use Rattle.part_size_with_refs.proofs.Steps.{size_with_refs_step, size_with_refs_stop}
+use Rattle.base_syntax.proofs.Steps.{group_step, group_stop}
 use Rattle.header_inter.specs.Inter.{read_inter}
 use Rattle.header_inter.proofs.Records.{inter_read}
-use Rattle.part_refs.proofs.Steps.{sources_step, sources_stop}
-use Rattle.part_motion.proofs.Steps.{motion_step, motion_stop}
 use Rattle.header_inter.proofs.parse_inter.Goals as goal
 
-pub returns-in_default : goal.returns-in_default
+pub returns-in_err-sources : goal.returns-in_err-sources
 unfolding read_inter
-returns-in_default c = search sources_stop
+returns-in_err-sources c = search group_stop
 
-pub returns-in_default-parse_frame_size_with_refs : goal.returns-in_default-parse_frame_size_with_refs
+pub returns-in_err-sizes : goal.returns-in_err-sizes
 unfolding read_inter
-returns-in_default-parse_frame_size_with_refs c = search (sources_step, size_with_refs_stop)
+returns-in_err-sizes c = search (group_step, group_stop)
 
-pub returns-in_default-parse_motion : goal.returns-in_default-parse_motion
+pub returns-in_err-motion : goal.returns-in_err-motion
 unfolding read_inter
-returns-in_default-parse_motion c = search (sources_step, size_with_refs_step, motion_stop)
+returns-in_err-motion c = search (group_step, group_stop)
 
 pub returns : goal.returns
 unfolding read_inter
-returns c = search (sources_step, size_with_refs_step, motion_step, inter_read)
+returns c = search (group_step, inter_read)
