@@ -37,5 +37,5 @@ pub fn parse_quantization_params(s: &[u8], c: Cursor) -> Read<QuantizationParams
 pub fn is_lossless(q: QuantizationParams) -> bool
     ensures { result ≡ lossless q }
 {
-    q.base_q_idx == 0 && (q.delta_q_y_dc == 0 && (q.delta_q_uv_dc == 0 && q.delta_q_uv_ac == 0))
+    q.base_q_idx == 0 && q.delta_q_y_dc == 0 && q.delta_q_uv_dc == 0 && q.delta_q_uv_ac == 0
 }

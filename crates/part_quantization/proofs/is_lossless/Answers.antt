@@ -10,11 +10,3 @@ returns-then-q-eq0-3 c = search (rules, zeros)
 pub returns-else-q-eq0-3 : goal.returns-else-q-eq0-3
 unfolding lossless
 returns-else-q-eq0-3 c = search (rules, zeros)
-
-pub returns-else-q-eq0-2 : goal.returns-else-q-eq0-2
-unfolding lossless
-returns-else-q-eq0-2 c = search (rules, zeros)
-
-pub returns-else-q-eq0 : goal.returns-else-q-eq0
-unfolding lossless
-returns-else-q-eq0 c = search (rules, zeros)
