@@ -1,21 +1,10 @@
 -- Any two answers that meet one of these promises are one.
 -- Assumes nothing.
-use mathlib.Core.Path.{◌≡◌, refl}
-use Rattle.base_syntax.specs.Reader.{Got, got, refused}
-use Rattle.base_syntax.proofs.Exact.{one_of}
+use mathlib.Core.Path.{◌≡◌, sym, ◌∙◌}
+use Rattle.std.specs.Prelude.{Result}
+use Rattle.base_bits.specs.declared.Cursor.{Cursor}
+use Rattle.base_bits.specs.declared.Refusal.{Refusal}
 use Rattle.header_lead.specs.declared.Lead.{Lead}
-use Rattle.header_lead.specs.declared.LeadRead.{LeadRead}
-use Rattle.header_lead.specs.declared.LeadRead.TheVariants.{Value as Leads, Refused as LeadsNot}
-use Rattle.header_lead.specs.Lead.{view_lead}
 
-as_lead : Got Lead → LeadRead
-as_lead (got a p) = Leads a (record { at = p })
-as_lead (refused e) = LeadsNot e
-
-lead_back : (r : LeadRead) → as_lead (view_lead r) ≡ r
-unfolding as_lead
-lead_back (Leads a c) = refl
-lead_back (LeadsNot e) = refl
-
-pub one_lead : (r q : LeadRead) (x : Got Lead) → view_lead r ≡ x → view_lead q ≡ x → r ≡ q
-one_lead = one_of view_lead as_lead lead_back
+pub one_lead : (r q x : Result (Lead × Cursor) Refusal) → r ≡ x → q ≡ x → r ≡ q
+one_lead r q x h k = h ∙ sym k

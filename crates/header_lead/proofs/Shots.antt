@@ -4,20 +4,18 @@ use Prim.Native.Nat.{ℕ}
 use mathlib.Core.Path.{◌≡◌, refl, sym, ap, ◌∙◌}
 use mathlib.Core.Bool.{Bool, true, false}
 use mathlib.Core.List.{List}
+use Rattle.std.specs.Prelude.{Result, Ok}
+use Rattle.std.specs.Result.{IsErrAnd, result_from_control_flow}
+use Rattle.std.proofs.Common.{Continue, Break}
+use Rattle.std.proofs.lemmas.Result.{err_from_is_err_and}
+use Rattle.base_bits.specs.declared.Cursor.{Cursor}
 use Rattle.base_bits.specs.declared.Refusal.{Refusal}
-use Rattle.base_bits.specs.declared.Refusal.TheVariants.{PastEnd}
 use Rattle.base_syntax.specs.Syntax.{flag}
-use Rattle.base_syntax.specs.Reader.{Got, Read, got, refused, over, alter, group_if, said}
+use Rattle.base_syntax.specs.Reader.{Read, over, alter, group_if, said}
 use Rattle.base_syntax.proofs.Steps.{group_step, group_stop, tail, alter_over}
 use Rattle.base_size.specs.declared.FrameSize.{FrameSize}
 use Rattle.part_traits.specs.declared.Kind.{Kind}
-use Rattle.base_bits.specs.declared.Cursor.{Cursor}
-use Rattle.part_traits.specs.declared.KindRead.{KindRead}
-use Rattle.part_traits.specs.declared.KindRead.TheVariants.{Value, Short}
-use Rattle.part_traits.specs.Kind.{read_kind, kind_of, view_kind}
-use Rattle.header_picture.specs.declared.PictureRead.{PictureRead}
-use Rattle.header_picture.specs.declared.PictureRead.TheVariants.{Value as Shows, Refused as ShowsNot}
-use Rattle.header_picture.specs.Picture.{view_picture}
+use Rattle.part_traits.specs.Kind.{read_kind, kind_of}
 use Rattle.part_color.specs.declared.Color.{Color}
 use Rattle.header_picture.specs.declared.Picture.{Picture}
 use Rattle.header_picture.specs.Key.{read_key, key_of}
@@ -30,46 +28,40 @@ use Rattle.header_lead.specs.Shot.{with_kind, read_shot, shot_of}
 abbrev key_kind : Kind
 key_kind = record { intra_only = false; reset_frame_context = 0 }
 
--- a picture's answer with its kind
-altered : {A : Type 0} (kind : Kind) (f : A → Picture) (m : Read A) (x : Got Shot) (y : Got Picture) → x ≡ alter (with_kind kind) y → y ≡ over f m → x ≡ over (λ a. with_kind kind (f a)) m
-altered kind f m x y ex ey = ex ∙ ap (alter (with_kind kind)) ey ∙ alter_over said (with_kind kind) f m
+-- what is answered for a picture's reading: the picture with its kind, or the picture's refusal
+module _ (kind : Kind) (y : Result (Picture × Cursor) Refusal) where
+  pub pictured : {b : _} (v : Picture) (c : Cursor) → y ≡ result_from_control_flow b → b ≡ Continue (v, c) → Ok (with_kind kind v, c) ≡ alter (with_kind kind) y
+  pictured v c d h = rw (d, h)
+
+  pub unpictured : {b : _} {z : _} (x : Result (Shot × Cursor) Refusal) → y ≡ result_from_control_flow b → b ≡ Break z → IsErrAnd x (λ w. w ≡ z.0) → x ≡ alter (with_kind kind) y
+  unpictured x d h i = let j = err_from_is_err_and x i in rw (d, h, j.1, j.2)
+
+  altered : {A : Type 0} (f : A → Picture) (m : Read A) (x : Result (Shot × Cursor) Refusal) → x ≡ alter (with_kind kind) y → y ≡ over f m → x ≡ over (λ a. with_kind kind (f a)) m
+  altered f m x ex ey = ex ∙ ap (alter (with_kind kind)) ey ∙ alter_over said (with_kind kind) f m
 
 module _ (profile : ℕ) (color : Color) (slots : List FrameSize) (key shown resilient : Bool) (s : List ℕ) (p : ℕ) where
-  abbrev Shoots : Got Shot → Type 0
+  abbrev Shoots : Result (Shot × Cursor) Refusal → Type 0
   Shoots x = x ≡ over (shot_of profile key color slots) (read_shot profile key shown resilient s p)
 
-  pub key_shot : key ≡ true → (x : Got Shot) (y : Got Picture) → y ≡ over (key_of profile) (read_key profile s p) → x ≡ alter (with_kind key_kind) y → Shoots x
+  pub key_shot : key ≡ true → (x : Result (Shot × Cursor) Refusal) (y : Result (Picture × Cursor) Refusal) → y ≡ over (key_of profile) (read_key profile s p) → x ≡ alter (with_kind key_kind) y → Shoots x
   unfolding read_shot shot_of group_if kind_of
   key_shot k x y ey ex =
-      rw k (tail said _ _ (λ a. with_kind key_kind (key_of profile a)) (read_key profile s p) x (altered key_kind (key_of profile) (read_key profile s p) x y ex ey) (λ a q. refl))
+      rw k (tail said _ _ (λ a. with_kind key_kind (key_of profile a)) (read_key profile s p) x (altered key_kind y (key_of profile) (read_key profile s p) x ex ey) (λ a q. refl))
 
-  pub no_kind_shot : key ≡ false → refused PastEnd ≡ over kind_of (read_kind shown resilient s p) → Shoots (refused PastEnd)
-  unfolding read_shot group_if
-  no_kind_shot k e = rw k (group_stop said kind_of (read_kind shown resilient s p) _ _ PastEnd e)
+  module _ (k : key ≡ false) (r : Result (Kind × Cursor) Refusal) (e : r ≡ over kind_of (read_kind shown resilient s p)) {b : _} (d : r ≡ result_from_control_flow b) where
+    pub no_kind_shot : {z : _} (x : Result (Shot × Cursor) Refusal) → b ≡ Break z → IsErrAnd x (λ w. w ≡ z.0) → Shoots x
+    unfolding read_shot group_if
+    no_kind_shot x h i = rw k (group_stop said kind_of (read_kind shown resilient s p) _ _ r e x d h i)
 
-  module _ (k : key ≡ false) (kind : Kind) (q : ℕ) (e : got kind q ≡ over kind_of (read_kind shown resilient s p)) where
-    pub intra_only_shot : kind.intra_only ≡ true → (x : Got Shot) (y : Got Picture) → y ≡ over (intra_only_of profile) (read_intra_only profile s q) → x ≡ alter (with_kind kind) y → Shoots x
-    unfolding read_shot shot_of group_if kind_of
-    intra_only_shot i x y ey ex = rw k (group_step said kind_of (read_kind shown resilient s p) _ _ kind q x e λ d ed.
-        let f : flag d.intra_only ≡ true = sym (ap (λ (a : Kind). a.intra_only) ed) ∙ i in
-        rw f (tail said _ _ (λ a. with_kind kind (intra_only_of profile a)) (read_intra_only profile s q) x (altered kind (intra_only_of profile) (read_intra_only profile s q) x y ex ey) (λ a n. rw (ed, f))))
+    module _ (v : Kind × Cursor) (h : b ≡ Continue v) (x : Result (Shot × Cursor) Refusal) (y z : Result (Picture × Cursor) Refusal) (ex : x ≡ alter (with_kind v.0) y) (yz : y ≡ z) where
+      pub intra_only_shot : v.0.intra_only ≡ true → z ≡ over (intra_only_of profile) (read_intra_only profile s v.1.at) → Shoots x
+      unfolding read_shot shot_of group_if kind_of
+      intra_only_shot i ez = rw k (group_step said kind_of (read_kind shown resilient s p) _ _ r e v x d h λ a ea.
+          let f : flag a.intra_only ≡ true = sym (ap (λ (a : Kind). a.intra_only) ea) ∙ i in
+          rw f (tail said _ _ (λ b. with_kind v.0 (intra_only_of profile b)) (read_intra_only profile s v.1.at) x (altered v.0 y (intra_only_of profile) (read_intra_only profile s v.1.at) x ex (yz ∙ ez)) (λ b n. rw (ea, f))))
 
-    pub inter_shot : kind.intra_only ≡ false → (x : Got Shot) (y : Got Picture) → y ≡ over (inter_of color slots) (read_inter s q) → x ≡ alter (with_kind kind) y → Shoots x
-    unfolding read_shot shot_of group_if kind_of
-    inter_shot i x y ey ex = rw k (group_step said kind_of (read_kind shown resilient s p) _ _ kind q x e λ d ed.
-        let f : flag d.intra_only ≡ false = sym (ap (λ (a : Kind). a.intra_only) ed) ∙ i in
-        rw f (tail said _ _ (λ a. with_kind kind (inter_of color slots a)) (read_inter s q) x (altered kind (inter_of color slots) (read_inter s q) x y ex ey) (λ a n. rw (ed, f))))
-
--- what `parse_kind` answered
-pub kind_got : {x : Got Kind} (r : KindRead) (k : Kind) (c : Cursor) → view_kind r ≡ x → r ≡ Value k c → got k c.at ≡ x
-kind_got r k c e h = rw h at e
-
-pub kind_short : {x : Got Kind} (r : KindRead) → view_kind r ≡ x → r ≡ Short → refused PastEnd ≡ x
-kind_short r e h = rw h at e
-
--- what `with_kind` makes of a picture's answer
-pub kind_read : (k : Kind) (r : PictureRead) (x : Picture) (c : Cursor) → r ≡ Shows x c → got (with_kind k x) c.at ≡ alter (with_kind k) (view_picture r)
-kind_read k r x c h = rw h
-
-pub kind_refused : (k : Kind) (r : PictureRead) (u : Refusal) → r ≡ ShowsNot u → refused u ≡ alter (with_kind k) (view_picture r)
-kind_refused k r u h = rw h
+      pub inter_shot : v.0.intra_only ≡ false → z ≡ over (inter_of color slots) (read_inter s v.1.at) → Shoots x
+      unfolding read_shot shot_of group_if kind_of
+      inter_shot i ez = rw k (group_step said kind_of (read_kind shown resilient s p) _ _ r e v x d h λ a ea.
+          let f : flag a.intra_only ≡ false = sym (ap (λ (a : Kind). a.intra_only) ea) ∙ i in
+          rw f (tail said _ _ (λ b. with_kind v.0 (inter_of color slots b)) (read_inter s v.1.at) x (altered v.0 y (inter_of color slots) (read_inter s v.1.at) x ex (yz ∙ ez)) (λ b n. rw (ea, f))))

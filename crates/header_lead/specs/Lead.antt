@@ -2,15 +2,13 @@
 -- Assumes nothing.
 use Rattle.std.specs.Prelude.{ℕ, Bool, ◌||◌, List, eqb}
 use Rattle.base_syntax.specs.Syntax.{flag}
-use Rattle.base_syntax.specs.Reader.{Got, got, refused, Reader, give, ◌>>=◌}
+use Rattle.base_syntax.specs.Reader.{Reader, give, ◌>>=◌}
 use Rattle.base_size.specs.declared.FrameSize.{FrameSize}
 use Rattle.part_traits.specs.Traits.{TraitsValues, read_traits, traits_of}
 use Rattle.part_traits.specs.Context.{ContextValues, read_context, context_of}
 use Rattle.part_color.specs.declared.Color.{Color}
 use Rattle.header_lead.specs.Shot.{ShotValues, is_intra_only, read_shot, shot_of}
 use Rattle.header_lead.specs.declared.Lead.{Lead}
-use Rattle.header_lead.specs.declared.LeadRead.{LeadRead}
-use Rattle.header_lead.specs.declared.LeadRead.TheVariants.{Value, Refused}
 
 pub record LeadValues : Type 0 where
   pub traits : TraitsValues
@@ -47,7 +45,3 @@ lead_of profile color slots v =
       shot = shot_of profile (lead_is_key v.traits) color slots v.shot;
       context = context_of (is_resilient v.traits) v.context;
     }
-
-abbrev pub view_lead : LeadRead → Got Lead
-view_lead (Value a c) = got a c.at
-view_lead (Refused e) = refused e

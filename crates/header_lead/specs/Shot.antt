@@ -3,7 +3,7 @@
 use Rattle.std.specs.Prelude.{ℕ, Bool, not, ◌&&◌, List}
 use Rattle.base_shared.specs.Choice.{pick}
 use Rattle.base_syntax.specs.Syntax.{flag}
-use Rattle.base_syntax.specs.Reader.{Got, got, refused, Reader, give, ◌>>=◌, group_if}
+use Rattle.base_syntax.specs.Reader.{Reader, give, ◌>>=◌, group_if}
 use Rattle.base_size.specs.declared.FrameSize.{FrameSize}
 use Rattle.part_traits.specs.Kind.{KindValues, no_kind, read_kind, kind_of}
 use Rattle.part_traits.specs.declared.Kind.{Kind}
@@ -13,8 +13,6 @@ use Rattle.header_picture.specs.Key.{KeyValues, no_key, read_key, key_of}
 use Rattle.header_picture.specs.IntraOnly.{IntraOnlyValues, no_intra_only, read_intra_only, intra_only_of}
 use Rattle.header_inter.specs.Inter.{InterValues, no_inter, read_inter, inter_of}
 use Rattle.header_lead.specs.declared.Shot.{Shot}
-use Rattle.header_lead.specs.declared.ShotRead.{ShotRead}
-use Rattle.header_lead.specs.declared.ShotRead.TheVariants.{Value, Refused}
 
 pub record ShotValues : Type 0 where
   pub key : KeyValues
@@ -42,7 +40,3 @@ unfoldable pub shot_of : ℕ → Bool → Color → List FrameSize → ShotValue
 shot_of profile key color slots v =
     with_kind (kind_of v.kind)
     (pick key (key_of profile v.key) (pick (is_intra_only v) (intra_only_of profile v.intra_only) (inter_of color slots v.inter)))
-
-abbrev pub view_shot : ShotRead → Got Shot
-view_shot (Value a c) = got a c.at
-view_shot (Refused e) = refused e

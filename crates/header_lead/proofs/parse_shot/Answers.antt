@@ -1,14 +1,18 @@
-use Rattle.header_lead.proofs.Shots.{key_shot, no_kind_shot, intra_only_shot, inter_shot, kind_got, kind_short}
+use Rattle.header_lead.proofs.Shots.{key_shot, no_kind_shot, intra_only_shot, inter_shot, pictured, unpictured}
+use Rattle.header_lead.proofs.parse_shot.Goals.{then-kind, else-kind}
 use Rattle.header_lead.proofs.parse_shot.Goals as goal
 
+pub returns-in_err-picture : goal.returns-in_err-picture
+returns-in_err-picture c = search (key_shot, unpictured)
+
 pub returns-then-traits : goal.returns-then-traits
-returns-then-traits c = search key_shot
+returns-then-traits c = search (key_shot, pictured)
 
-pub returns-in_default : goal.returns-in_default
-returns-in_default c = search (no_kind_shot, kind_short)
+pub returns-in_err-kind : goal.returns-in_err-kind
+returns-in_err-kind c = search no_kind_shot
 
-pub returns-then-kind : goal.returns-then-kind
-returns-then-kind c = search (intra_only_shot, kind_got)
+pub returns-in_err-picture-2 : goal.returns-in_err-picture-2
+returns-in_err-picture-2 c = elim c.if-kind.branch [ then-kind w ↦ search (intra_only_shot, unpictured) | else-kind w ↦ search (inter_shot, unpictured) ]
 
-pub returns-else-kind : goal.returns-else-kind
-returns-else-kind c = search (inter_shot, kind_got)
+pub returns : goal.returns
+returns c = elim c.if-kind.branch [ then-kind w ↦ search (intra_only_shot, pictured) | else-kind w ↦ search (inter_shot, pictured) ]
