@@ -2,18 +2,18 @@
 -- Assumes nothing.
 use Prim.Native.Nat.{ℕ}
 use mathlib.Core.Path.{◌≡◌}
-use mathlib.Core.Bool.{Bool, false}
+use mathlib.Core.Bool.{false}
 use mathlib.Core.List.{List}
 use mir.Val.{Fits}
 use mir.Syntax.{w16}
-use Rattle.base_bits.specs.declared.Bits.{Bits}
-use Rattle.base_bits.specs.declared.Bits.TheVariants.{Value}
+use Rattle.std.specs.Prelude.{Result, Ok}
+use Rattle.std.specs.Result.{result_from_control_flow}
+use Rattle.std.proofs.Common.{Continue}
+use Rattle.base_bits.specs.declared.BitsError.{BitsError}
 use Rattle.base_bits.specs.declared.Cursor.{Cursor}
-use Rattle.base_bits.specs.declared.Next.{Next}
-use Rattle.base_bits.specs.declared.Next.TheVariants.{At, Refused}
 use Rattle.base_bits.specs.declared.Refusal.{Refusal}
 use Rattle.base_bits.specs.Read.{read_bits}
-use Rattle.base_syntax.specs.Reader.{Got, got, refused, view_next, valued}
+use Rattle.base_syntax.specs.Reader.{read, over}
 use Rattle.base_syntax.proofs.Steps.{value_lt}
 use Rattle.base_loop_filter.specs.declared.LoopFilterParams.{LoopFilterParams}
 use Rattle.base_quantization.specs.declared.QuantizationParams.{QuantizationParams}
@@ -23,34 +23,21 @@ use Rattle.grammar_settings.specs.Settings.{loop_filter_of, quantizer_of, segmen
 use Rattle.part_tiles.specs.declared.Tiles.{Tiles}
 use Rattle.part_tiles.specs.Tiles.{tiles_of}
 use Rattle.header_tail.specs.declared.Settings.{Settings}
-use Rattle.header_tail.specs.declared.SettingsRead.{SettingsRead}
-use Rattle.header_tail.specs.Settings.{settings_over, kept_settings, SettingsKept, SettingsAre, starting_filter, starting_segmentation}
+use Rattle.header_tail.specs.declared.Closing.{Closing}
+use Rattle.header_tail.specs.Settings.{settings_over}
 use Rattle.header_tail.specs.Closing.{closing_of}
 
-pub settings_read : (lf : LoopFilterParams) (seg : SegmentationParams) (p : ℕ) (x : LoopFilterParams) (y : QuantizationParams) (z : SegmentationParams) (a : LoopFilterValues) (b : QuantizerValues) (d : SegmentationValues)
-    → x ≡ loop_filter_of false lf a → y ≡ quantizer_of b → z ≡ segmentation_of false seg d
-    → valued (record { lf = x; quant = y; seg = z }) p ≡ got (settings_over lf seg (record { loop_filter = a; quantizer = b; segmentation = d })) p
+-- the new settings, from those that the frame starts from
+pub settings_read : (lf lf₀ : LoopFilterParams) (seg seg₀ : SegmentationParams) (c : Cursor) (x : LoopFilterParams) (y : QuantizationParams) (z : SegmentationParams) (a : LoopFilterValues) (b : QuantizerValues) (d : SegmentationValues)
+    → lf ≡ lf₀ → seg ≡ seg₀ → x ≡ loop_filter_of false lf a → y ≡ quantizer_of b → z ≡ segmentation_of false seg d
+    → ◌≡◌ {A = Result (Settings × Cursor) Refusal} (Ok (record { lf = x; quant = y; seg = z }, c)) (over (settings_over lf₀ seg₀) (read (record { loop_filter = a; quantizer = b; segmentation = d }) c.at))
 unfolding settings_over
-settings_read lf seg p x y z a b d ex ey ez = rw (ex, ey, ez)
+settings_read lf lf₀ seg seg₀ c x y z a b d el es ex ey ez = rw (ex, ey, ez, el, es)
 
--- what a refusal hands back
-pub kept : (lf : LoopFilterParams) (seg : SegmentationParams) (x : Settings) (n : Next) → x ≡ kept_settings lf seg → SettingsKept lf seg x n
-kept lf seg x (At c) e = tt
-kept lf seg x (Refused u) e = e
+pub bytes_fit : (s : List ℕ) (p : ℕ) (r : Result (ℕ × Cursor) BitsError) {b : _} (n : ℕ) (c : Cursor) → r ≡ read_bits s p 16 → r ≡ result_from_control_flow b → b ≡ Continue (n, c) → Fits w16 n
+bytes_fit s p r n c e d h = record { fits = value_lt s p 16 r n c e d h tt }
 
--- a refusal beside any value
-pub seen : {A : Type 0} (x : A) (n : Next) (u : Refusal) {o : Got A} → n ≡ Refused u → refused u ≡ o → view_next x n ≡ o
-seen x n u e h = rw e h
-
--- the settings that a frame starts from, by their own functions
-pub from_start : (s : List ℕ) (p : ℕ) (x lf : LoopFilterParams) (y seg : SegmentationParams) (b : Bool) (r : SettingsRead)
-    → SettingsAre s p x y r → x ≡ starting_filter b lf → y ≡ starting_segmentation b seg → SettingsAre s p (starting_filter b lf) (starting_segmentation b seg) r
-from_start s p x lf y seg b r h ex ey = rw (ex, ey) at h
-
-pub bytes_fit : (s : List ℕ) (p : ℕ) (r : Bits) (n : ℕ) (c : Cursor) → r ≡ read_bits s p 16 → r ≡ Value n c → Fits w16 n
-bytes_fit s p r n c e t = record { fits = value_lt s p 16 r n c e t tt }
-
-pub closing_read : (width n p : ℕ) (t : Tiles) (a : TilesValues) → t ≡ tiles_of width a
-    → valued (record { tiles = t; header_size_in_bytes = n }) p ≡ got (closing_of width (record { tiles = a; header_size_in_bytes = n })) p
+pub closing_read : (width n : ℕ) (c : Cursor) (t : Tiles) (a : TilesValues) → t ≡ tiles_of width a
+    → ◌≡◌ {A = Result (Closing × Cursor) Refusal} (Ok (record { tiles = t; header_size_in_bytes = n }, c)) (over (closing_of width) (read (record { tiles = a; header_size_in_bytes = n }) c.at))
 unfolding closing_of
-closing_read width n p t a e = rw e
+closing_read width n c t a e = rw e

@@ -2,14 +2,11 @@
 -- Assumes nothing.
 use Rattle.std.specs.Prelude.{ℕ}
 use Rattle.base_bits.specs.Refusal.{the}
-use Rattle.base_syntax.specs.Reader.{Got, got, refused, Reader, give, ◌>>=◌, field}
-use Rattle.base_bits.specs.declared.Refusal.TheVariants.{PastEnd}
+use Rattle.base_syntax.specs.Reader.{Reader, give, ◌>>=◌, field}
 use Rattle.part_tiles.specs.Tiles.{tiles_of}
 use Rattle.grammar_tables.specs.Tables.{TilesValues}
 use Rattle.grammar_tables.specs.Reading.{read_tiles}
 use Rattle.header_tail.specs.declared.Closing.{Closing}
-use Rattle.header_tail.specs.declared.ClosingRead.{ClosingRead}
-use Rattle.header_tail.specs.declared.ClosingRead.TheVariants.{Value, Short}
 
 pub record ClosingValues : Type 0 where
   pub tiles : TilesValues
@@ -26,7 +23,3 @@ read_closing width = do
 -- the code's answer
 unfoldable pub closing_of : ℕ → ClosingValues → Closing
 closing_of width v = record { tiles = tiles_of width v.tiles; header_size_in_bytes = v.header_size_in_bytes }
-
-abbrev pub view_closing : ClosingRead → Got Closing
-view_closing (Value a c) = got a c.at
-view_closing Short = refused PastEnd

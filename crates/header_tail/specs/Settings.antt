@@ -1,12 +1,11 @@
 -- The settings of filter, quantizer and segmentation (VP9 6.2).
 -- Assumes nothing.
-use Rattle.std.specs.Prelude.{ℕ, ◌≡◌, Bool, false, List}
+use Rattle.std.specs.Prelude.{ℕ, ◌≡◌, Bool, false, List, Result}
 use Rattle.base_shared.specs.Choice.{pick}
-use Rattle.base_syntax.specs.Reader.{Got, Reader, give, ◌>>=◌, over, view_next}
-use Rattle.base_bits.specs.declared.Next.{Next}
-use Rattle.base_bits.specs.declared.Next.TheVariants.{At, Refused}
+use Rattle.base_syntax.specs.Reader.{Reader, give, ◌>>=◌, over}
+use Rattle.base_bits.specs.declared.Cursor.{Cursor}
+use Rattle.base_bits.specs.declared.Refusal.{Refusal}
 use Rattle.base_loop_filter.specs.LoopFilterParams.{reset_filter}
-use Rattle.base_quantization.specs.QuantizationParams.{default_quantization}
 use Rattle.base_segmentation.specs.SegmentationParams.{reset_segmentation}
 use Rattle.base_loop_filter.specs.declared.LoopFilterParams.{LoopFilterParams}
 use Rattle.base_segmentation.specs.declared.SegmentationParams.{SegmentationParams}
@@ -14,7 +13,6 @@ use Rattle.grammar_tables.specs.Tables.{LoopFilterValues, QuantizerValues, Segme
 use Rattle.grammar_tables.specs.Reading.{read_loop_filter, read_quantizer, read_segmentation}
 use Rattle.grammar_settings.specs.Settings.{loop_filter_of, quantizer_of, segmentation_of}
 use Rattle.header_tail.specs.declared.Settings.{Settings}
-use Rattle.header_tail.specs.declared.SettingsRead.{SettingsRead}
 
 pub record SettingsValues : Type 0 where
   pub loop_filter : LoopFilterValues
@@ -50,18 +48,6 @@ settings_over lf seg v =
 abbrev pub settings_of : Bool → LoopFilterParams → SegmentationParams → SettingsValues → Settings
 settings_of independent lf seg = settings_over (starting_filter independent lf) (starting_segmentation independent seg)
 
--- what a refusal hands back
-abbrev pub kept_settings : LoopFilterParams → SegmentationParams → Settings
-kept_settings lf seg = record { lf = lf; quant = default_quantization; seg = seg }
-
-abbrev pub view_settings : SettingsRead → Got Settings
-view_settings r = view_next r.settings r.next
-
--- a refusal hands back what the frame starts from
-abbrev pub SettingsKept : LoopFilterParams → SegmentationParams → Settings → Next → Type 0
-SettingsKept lf seg x (At c) = Unit
-SettingsKept lf seg x (Refused e) = x ≡ kept_settings lf seg
-
 -- what is answered, from the settings that a frame starts from
-abbrev pub SettingsAre : List ℕ → ℕ → LoopFilterParams → SegmentationParams → SettingsRead → Type 0
-SettingsAre s p lf seg r = (view_settings r ≡ over (settings_over lf seg) (read_settings s p)) × SettingsKept lf seg r.settings r.next
+abbrev pub SettingsAre : List ℕ → ℕ → LoopFilterParams → SegmentationParams → Result (Settings × Cursor) Refusal → Type 0
+SettingsAre s p lf seg r = r ≡ over (settings_over lf seg) (read_settings s p)
