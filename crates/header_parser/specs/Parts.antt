@@ -1,6 +1,7 @@
 -- What the code answers part by part: the end of a header, its settings and its end, and the whole of a frame.
 -- Assumes nothing.
-use Rattle.std.specs.Prelude.{ℕ, List}
+use Rattle.std.specs.Prelude.{ℕ, List, Result, Ok, Err}
+use Rattle.base_bits.specs.declared.Refusal.{Refusal}
 use Rattle.base_types.specs.declared.state.ReaderState.{ReaderState}
 use Rattle.header_lead.specs.declared.Lead.{Lead}
 use Rattle.header_lead.specs.Lead.{read_lead, lead_of}
@@ -11,7 +12,7 @@ use Rattle.header_record.specs.Record.{independent, cut_length, frame_record}
 use Rattle.header_state.specs.State.{frame_state}
 use Rattle.header_answer.specs.declared.HeaderRead.{HeaderRead}
 use Rattle.part_color.specs.declared.Color.{Color}
-use Rattle.header_answer.specs.Answer.{accepted}
+use Rattle.header_answer.specs.Answer.{accepted, refused_with}
 use Rattle.header_parser.specs.Answer.{outcome}
 use Rattle.base_types.specs.declared.header.Header.{Header}
 use Rattle.base_types.specs.Header.{showing_header}
@@ -32,6 +33,11 @@ remembered_color st =
 -- show-existing, from the opening
 unfoldable pub shown_header : Opening → Header
 shown_header o = showing_header (profileNamed o.profile) o.frame_to_show_map_idx
+
+-- what is answered to a record and the state after, or to a refusal
+abbrev pub answered : ReaderState → Result (Header × ReaderState) Refusal → HeaderRead
+answered st (Ok x) = accepted x.0 x.1
+answered st (Err e) = refused_with st e
 
 abbrev pub width_of : Lead → ℕ
 width_of l = l.shot.picture.sizes.frame.width
