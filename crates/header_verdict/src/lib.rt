@@ -27,7 +27,7 @@ pub fn header_number<T>(answer: &Result<T, Refusal>) -> u8
 }
 
 // Why a frame is refused: it lies outside its chunk, or its header says why.
-#[derive(Clone, Copy)]
+#[derive(Clone, Copy, Debug, PartialEq, Eq)]
 pub enum FrameRefusal {
     Outside,
     Header(Refusal),
