@@ -1,6 +1,6 @@
 -- The theorems on a single frame, for every chunk, offset, size and state.
 -- Assumes nothing.
-use Prim.Native.Nat.{ℕ, ◌-◌, ◌<◌}
+use Prim.Native.Nat.{ℕ, ◌-◌}
 use mathlib.Core.Path.{◌≡◌, refl, sym, subst, ◌∙◌}
 use mathlib.Core.Logic.{inl, inr, ⊎_elim}
 use mathlib.Core.List.{List}
@@ -11,22 +11,16 @@ use Rattle.base_shared.proofs.Order.{below}
 use Rattle.base_bits.specs.declared.Refusal.{Refusal}
 use Rattle.base_bits.specs.declared.Refusal.TheVariants.{FrameMarker, SyncCode, PastEnd}
 use Rattle.base_types.specs.declared.state.ReaderState.{ReaderState}
-use Rattle.header_verdict.specs.declared.Verdict.{Verdict}
-use Rattle.header_verdict.specs.declared.Verdict.TheVariants.{Accepted, Refused}
-use Rattle.header_verdict.specs.declared.Place.{Place}
-use Rattle.header_verdict.specs.declared.Place.TheVariants.{Outside, Inside}
-use Rattle.header_verdict.specs.Verdict.{place_number}
+use Rattle.header_verdict.specs.Verdict.{Verdict, Accepted, Refused, Place, Outside, Inside, place_number}
 use Rattle.header_verdict.proofs.Numbers.{one_place}
-use Rattle.header_answer.specs.declared.HeaderRead.{HeaderRead}
-use Rattle.header_answer.specs.Answer.{accepted, refused_with}
+use Rattle.header_answer.specs.Answer.{HeaderRead, accepted, refused_with}
 use Rattle.header_answer.proofs.Accepted.{accepted_is}
 use Rattle.header_parser.specs.Answer.{parsed}
 use Rattle.header_parser.specs.Demand.{Demanded}
 use Rattle.header_parser.proofs.Theorems as header
-use Rattle.chunk_frame.specs.declared.FrameRead.{FrameRead}
-use Rattle.chunk_frame.specs.Place.{refused_frame, inside_frame, frame_placed}
+use Rattle.chunk_frame.specs.Place.{FrameRead, refused_frame, inside_frame, frame_placed}
 use Rattle.chunk_frame.specs.Demand.{FrameRefused, LiesOutside, InsideDemanded, FrameDemanded}
-use Rattle.chunk_frame.proofs.Steps.{placed_far, placed_long}
+use Rattle.chunk_frame.proofs.Steps.{placed_out}
 
 -- two refusals with one number are one
 same_refusal : {n : ℕ} {st : ReaderState} {r q : FrameRead} → FrameRefused n st r → FrameRefused n st q → r ≡ q
@@ -40,10 +34,7 @@ module _ (chunk : List ℕ) (offset size : ℕ) (st : ReaderState) where
   placed = frame_placed chunk offset size st
 
   outside_is : LiesOutside chunk offset size → placed ≡ refused_frame Outside st
-  outside_is o = ⊎_elim far (λ h. ⊎_elim far (λ l. sym (placed_long chunk offset size st _ l h refl)) (below (length chunk) offset)) o
-    where
-      far : length chunk < offset → placed ≡ refused_frame Outside st
-      far h = sym (placed_far chunk offset size st _ h refl)
+  outside_is o = sym (placed_out chunk offset size st o)
 
   inside_is : (LiesOutside chunk offset size → ⊥) → placed ≡ inside_frame (parsed part st)
   unfolding frame_placed

@@ -6,11 +6,9 @@ use Rattle.base_bits.specs.declared.Refusal.TheVariants.{FrameMarker, SyncCode, 
 use Rattle.base_types.specs.declared.header.Header.{Header}
 use Rattle.base_types.specs.declared.state.ReaderState.{ReaderState}
 use Rattle.header_verdict.specs.Verdict.{place_number, place_frame}
-use Rattle.header_answer.specs.declared.HeaderRead.{HeaderRead}
-use Rattle.header_answer.specs.Answer.{accepted, refused_with}
+use Rattle.header_answer.specs.Answer.{HeaderRead, accepted, refused_with}
 use Rattle.header_parser.specs.Demand.{Demanded}
-use Rattle.chunk_frame.specs.declared.FrameRead.{FrameRead}
-use Rattle.chunk_frame.specs.Place.{refused_frame, inside_frame}
+use Rattle.chunk_frame.specs.Place.{FrameRead, refused_frame, inside_frame}
 
 -- r is a refusal with number n: frame number 0, no header, and the state before
 pub record FrameRefused (n : ℕ) (st : ReaderState) (r : FrameRead) : Type 0 where

@@ -11,10 +11,8 @@ use Rattle.base_bits.specs.declared.Refusal.TheVariants.{FrameMarker, SyncCode, 
 use Rattle.base_types.specs.Header.{default_header}
 use Rattle.base_types.specs.declared.header.Header.{Header}
 use Rattle.base_types.specs.declared.state.ReaderState.{ReaderState}
-use Rattle.header_verdict.specs.declared.Verdict.{Verdict}
-use Rattle.header_verdict.specs.declared.Verdict.TheVariants.{Refused}
-use Rattle.header_answer.specs.declared.HeaderRead.{HeaderRead}
-use Rattle.header_answer.specs.Answer.{accepted, refused_with}
+use Rattle.header_verdict.specs.Verdict.{Verdict, Refused}
+use Rattle.header_answer.specs.Answer.{HeaderRead, accepted, refused_with}
 use Rattle.header_answer.proofs.Accepted.{accepted_is}
 use Rattle.chunk_index.specs.declared.Answer.{Answer as SplitAnswer}
 use Rattle.chunk_index.specs.declared.Answer.TheVariants as split

@@ -7,8 +7,7 @@ use native.Mathlib.Nat.{eq-or-lt_of_le}
 use native.Mathlib.Omega.{arith}
 use Rattle.base_bits.specs.declared.Refusal.{Refusal}
 use Rattle.base_shared.proofs.Order.{below}
-use Rattle.header_verdict.specs.declared.Verdict.{Verdict}
-use Rattle.header_verdict.specs.declared.Verdict.TheVariants.{Accepted, Refused}
+use Rattle.header_verdict.specs.Verdict.{Verdict, Accepted, Refused}
 use Rattle.chunk_judged.specs.Frames.{FaultFound, none, fault, fault_at, first_fault}
 
 -- the verdicts from i on, up to j, are accepted

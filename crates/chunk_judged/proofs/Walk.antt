@@ -11,9 +11,8 @@ use Rattle.base_bits.specs.declared.Refusal.{Refusal}
 use Rattle.base_types.specs.Header.{default_header}
 use Rattle.base_types.specs.declared.header.Header.{Header}
 use Rattle.base_types.specs.declared.state.ReaderState.{ReaderState}
-use Rattle.header_verdict.specs.declared.Verdict.{Verdict}
-use Rattle.header_verdict.specs.declared.Verdict.TheVariants.{Accepted, Refused}
-use Rattle.header_answer.specs.declared.HeaderRead.{HeaderRead}
+use Rattle.header_verdict.specs.Verdict.{Verdict, Accepted, Refused}
+use Rattle.header_answer.specs.Answer.{HeaderRead}
 use Rattle.chunk_index.specs.declared.Answer.{Answer as SplitAnswer}
 use Rattle.chunk_index.specs.declared.Answer.TheVariants.{Frames}
 use Rattle.chunk_index.specs.declared.Split.{Split}

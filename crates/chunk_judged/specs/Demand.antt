@@ -7,8 +7,7 @@ use Rattle.base_bits.specs.declared.Refusal.TheVariants.{FrameMarker, SyncCode, 
 use Rattle.base_types.specs.Header.{default_header}
 use Rattle.base_types.specs.declared.header.Header.{Header}
 use Rattle.base_types.specs.declared.state.ReaderState.{ReaderState}
-use Rattle.header_answer.specs.declared.HeaderRead.{HeaderRead}
-use Rattle.header_answer.specs.Answer.{accepted, refused_with}
+use Rattle.header_answer.specs.Answer.{HeaderRead, accepted, refused_with}
 use Rattle.chunk_index.specs.Layout.{Layout, layout_of, start}
 use Rattle.chunk_index.specs.Split.{filled}
 use Rattle.chunk_index.specs.Table.{NoBytes, Cut, FirstPast, AllFit}

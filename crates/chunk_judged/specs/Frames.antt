@@ -4,9 +4,8 @@
 use Rattle.std.specs.Prelude.{ℕ, zero, suc, ◌+◌, List, get_or, take, drop}
 use Rattle.base_bits.specs.declared.Refusal.{Refusal}
 use Rattle.base_types.specs.declared.state.ReaderState.{ReaderState}
-use Rattle.header_verdict.specs.declared.Verdict.{Verdict}
-use Rattle.header_verdict.specs.declared.Verdict.TheVariants.{Accepted, Refused}
-use Rattle.header_answer.specs.declared.HeaderRead.{HeaderRead}
+use Rattle.header_verdict.specs.Verdict.{Verdict, Accepted, Refused}
+use Rattle.header_answer.specs.Answer.{HeaderRead}
 use Rattle.chunk_index.specs.declared.Split.{Split}
 
 -- what is answered to a frame's bytes under a state

@@ -9,35 +9,26 @@ ghost use Rattle.chunk_parser.specs.Answer.{chunk_of};
 use base_types::{Header, MAX_FRAMES_IN_SUPERFRAME, ReaderState};
 use chunk_answer::{Answer, ChunkRead};
 use chunk_index::Split;
-use header_verdict::Verdict;
 
 // Each header is read under the state that the frames before it left; the first refusal drops them all.
 fn parse_frames(chunk: &[u8], places: Split, count: usize, st: ReaderState) -> ChunkRead
     requires { (places ≡ split_of chunk.now) × (places.answer ≡ Frames count) }
     ensures { result ≡ chunk_of chunk.now st }
 {
-    let at = places.at;
-    let size = places.size;
     let mut headers = [Header::DEFAULT; MAX_FRAMES_IN_SUPERFRAME];
     let mut state = st;
     for i in 0..count {
-        let from = at[i];
-        let to = from + size[i];
-        let read = header_parser::parse_frame_header(&chunk[from..to], state);
-        let verdict = read.verdict;
-        match verdict {
-            Verdict::Refused(e) => return chunk_answer::refused(Answer::Header(i, e), st),
-            Verdict::Accepted => {}
+        let from = places.at[i];
+        let to = from + places.size[i];
+        match header_parser::parse_frame_header(&chunk[from..to], &mut state) {
+            Ok(header) => headers[i] = header,
+            Err(e) => return chunk_answer::refused(Answer::Header(i, e), st),
         }
-        let header = read.header;
-        let after = read.state;
-        headers[i] = header;
-        state = after;
     }
     ChunkRead {
         answer: Answer::Frames(count),
-        at,
-        size,
+        at: places.at,
+        size: places.size,
         headers,
         state,
     }
@@ -48,8 +39,7 @@ pub fn parse_chunk(chunk: &[u8], st: ReaderState) -> ChunkRead
     ensures { result ≡ chunk_of chunk.now st }
 {
     let places = chunk_index::split_chunk(chunk);
-    let answer = places.answer;
-    match answer {
+    match places.answer {
         chunk_index::Answer::Frames(count) => parse_frames(chunk, places, count, st),
         chunk_index::Answer::Empty => chunk_answer::refused(Answer::Empty, st),
         chunk_index::Answer::Short => chunk_answer::refused(Answer::Short, st),

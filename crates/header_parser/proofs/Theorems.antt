@@ -7,12 +7,13 @@ use mathlib.Core.Logic.{◌↔◌}
 use mathlib.Core.List.{List}
 use native.Mathlib.Omega.{arith}
 use lib.ListN.{length}
+use Rattle.std.specs.Prelude.{Err}
 use Rattle.base_bits.specs.declared.Refusal.{Refusal}
 use Rattle.base_bits.specs.declared.Refusal.TheVariants.{FrameMarker, SyncCode, PastEnd}
 use Rattle.base_bits.specs.Refusal.{Mark, frame_marker, sync_code, mark_refusal}
 use Rattle.base_syntax.specs.Syntax.{flat, size, Ranged}
 use Rattle.base_syntax.specs.Fault.{Fits, StopsIn, OtherNumber}
-use Rattle.base_syntax.specs.Reader.{Read, read, stopped, over, refused}
+use Rattle.base_syntax.specs.Reader.{Read, read, stopped, over}
 use Rattle.base_bits.proofs.Begins.{begins}
 use Rattle.base_syntax.proofs.Fields.{length_flat}
 use Rattle.base_syntax.proofs.Laws.{unique}
@@ -20,16 +21,14 @@ use Rattle.base_syntax.proofs.Stopped.{cut_begins, mark_begins}
 use Rattle.base_syntax.proofs.Told.{past_end_exactly, mark_exactly}
 use Rattle.base_size.specs.declared.FrameSize.{FrameSize}
 use Rattle.base_types.specs.declared.state.ReaderState.{ReaderState}
-use Rattle.header_verdict.specs.declared.Verdict.{Verdict}
-use Rattle.header_verdict.specs.declared.Verdict.TheVariants.{Accepted, Refused}
+use Rattle.header_verdict.specs.Verdict.{Verdict, Accepted, Refused}
 use Rattle.grammar_tables.specs.Header.{HeaderValues, shows_existing, header_fields, Spelled}
 use Rattle.grammar_record.specs.Record.{length_of, frame_of, header_of, state_after}
 use Rattle.grammar_tables.specs.Reading.{read_header}
 use Rattle.grammar_tables.proofs.Header.{header_reads, header_size_lem}
-use Rattle.header_answer.specs.Answer.{accepted, refused_with}
+use Rattle.header_answer.specs.Answer.{accepted, refused_with, HeaderRead}
 use Rattle.header_parser.specs.Answer.{outcome, parsed}
 use Rattle.header_parser.specs.Demand.{IsSpelled, AtFault, Demanded}
-use Rattle.header_answer.specs.declared.HeaderRead.{HeaderRead}
 
 module _ (s : List ℕ) (slots : List FrameSize) (v : HeaderValues) where
   short_enough : length (flat (header_fields slots v)) < 2 ^ 64
@@ -76,15 +75,15 @@ module _ (s : List ℕ) (st : ReaderState) where
       go (stopped w) h = let we : w.refusal ≡ e = cc in rw we
 
   -- the code's refusal is the reading's
-  told : (e : Refusal) → ((parsed s st).verdict ≡ Refused e) ↔ (over (λ (v : HeaderValues). v) (read_header slots s 0) ≡ refused e)
+  told : (e : Refusal) → ((parsed s st).verdict ≡ Refused e) ↔ (over (λ (v : HeaderValues). v) (read_header slots s 0) ≡ Err e)
   unfolding parsed
   told e = (λ h. to (read_header slots s 0) h, λ h. from (read_header slots s 0) h)
     where
-      to : (m : Read HeaderValues) → (outcome st answer m).verdict ≡ Refused e → over (λ (v : HeaderValues). v) m ≡ refused e
+      to : (m : Read HeaderValues) → (outcome st answer m).verdict ≡ Refused e → over (λ (v : HeaderValues). v) m ≡ Err e
       to (read v p) h = let z : ◌≡◌ {A = ℕ} 0 1 = cc in absurd (omega arith)
       to (stopped w) h = let we : w.refusal ≡ e = cc in rw we
 
-      from : (m : Read HeaderValues) → over (λ (v : HeaderValues). v) m ≡ refused e → (outcome st answer m).verdict ≡ Refused e
+      from : (m : Read HeaderValues) → over (λ (v : HeaderValues). v) m ≡ Err e → (outcome st answer m).verdict ≡ Refused e
       from (read v p) h = let z : ◌≡◌ {A = ℕ} 0 1 = cc in absurd (omega arith)
       from (stopped w) h = let we : w.refusal ≡ e = cc in rw we
 
@@ -95,7 +94,7 @@ module _ (s : List ℕ) (st : ReaderState) where
       few : (v : HeaderValues) → size (header_fields slots v) < 2 ^ 64
       few v = omega (arith, header_size_lem slots v)
 
-      marked : (k : Mark) → (over (λ (v : HeaderValues). v) (read_header slots s 0) ≡ refused (mark_refusal k))
+      marked : (k : Mark) → (over (λ (v : HeaderValues). v) (read_header slots s 0) ≡ Err (mark_refusal k))
           ↔ ((v : HeaderValues) × Ranged (header_fields slots v) × StopsIn s (header_fields slots v) (OtherNumber s k))
       marked k =
           let x = mark_exactly (header_reads slots) (λ v. v) s 0 k in (
@@ -103,7 +102,7 @@ module _ (s : List ℕ) (st : ReaderState) where
             λ h. x.1 (h.0, h.1, (mark_begins s (header_fields slots h.0) (few h.0) k).1 h.2),
           )
 
-      read_at_fault : (e : Refusal) → (over (λ (v : HeaderValues). v) (read_header slots s 0) ≡ refused e) ↔ AtFault slots s e
+      read_at_fault : (e : Refusal) → (over (λ (v : HeaderValues). v) (read_header slots s 0) ≡ Err e) ↔ AtFault slots s e
       read_at_fault FrameMarker = marked frame_marker
       read_at_fault SyncCode = marked sync_code
       read_at_fault PastEnd =

@@ -38,13 +38,12 @@ use Rattle.grammar_tables.specs.Header.{HeaderValues, header_fields}
 use Rattle.grammar_record.specs.Record.{length_of, header_of, state_after}
 use Rattle.grammar_tables.specs.Reading.{no_frame, read_frame, read_header}
 use Rattle.grammar_tables.proofs.Header.{header_reads, header_size_lem}
-use Rattle.header_answer.specs.declared.HeaderRead.{HeaderRead}
-use Rattle.header_parser.specs.Parts.{remembered_color, width_of, finished, framed, shown_header}
-use Rattle.header_answer.specs.Answer.{accepted}
+use Rattle.header_answer.specs.Answer.{HeaderRead, accepted}
+use Rattle.header_parser.specs.Parts.{remembered_color, shown_header}
 use Rattle.header_parser.specs.Answer.{outcome, parsed}
 use Rattle.header_parser.proofs.Outcomes.{outcome_bind, outcome_same}
 use Rattle.header_parser.proofs.Flat.{flat_frame, flat_header, width_from, in_parts_lem, opening_first}
-use Rattle.header_parser.proofs.Parts.{opened}
+use Rattle.header_parser.proofs.Parts.{width_of, finished, framed, opened}
 use Rattle.header_parser.proofs.Record.{frame_parts, state_parts}
 
 -- the width in the record is the frame's, and the record's independence the values'
@@ -95,25 +94,25 @@ module _ (s : List ℕ) (st : ReaderState) where
       unfolding lead_of shot_of
       closing_same =
           rw (width_same profile (remembered_color st) slots l)
-          (outcome_bind st (read_closing (width_from slots l) s r) _ _ ∙ outcome_same st (read_closing (width_from slots l) s r) _ _ last_same)
+          (outcome_bind st (read_closing (width_from slots l) s r) _ _ ∙ outcome_same st _ (read_closing (width_from slots l) s r) _ _ last_same)
 
     frame_same : flag o.show_existing_frame ≡ false → outcome st answer (bind (read_frame slots profile s p) (λ f n. read (flat_header o f) n)) ≡ framed st profile s p
     frame_same h =
         outcome_bind st (read_frame slots profile s p) _ _
         ∙ rw (in_parts_lem slots profile s p)
         (outcome_bind st (read_lead profile s p) _ _
-        ∙ outcome_same st (read_lead profile s p) _ _ λ l q el.
+        ∙ outcome_same st _ (read_lead profile s p) _ _ λ l q el.
         outcome_bind st (read_settings s q) _ _
-        ∙ outcome_same st (read_settings s q) _ _ (λ g r eg. closing_same h l q el g r eg))
+        ∙ outcome_same st _ (read_settings s q) _ _ (λ g r eg. closing_same h l q el g r eg))
 
     kind_same : outcome st answer (bind (group_if (not (flag o.show_existing_frame)) no_frame (read_frame slots profile) s p) (λ f n. read (flat_header o f) n))
-        ≡ pick (flag o.show_existing_frame) (accepted (shown_header (opening_of o)) st) (framed st profile s p)
+        ≡ pick (opening_of o).show_existing_frame (accepted (shown_header (opening_of o)) st) (framed st (opening_of o).profile s p)
     unfolding group_if header_of state_after shown_header opening_of
     kind_same = split (flag o.show_existing_frame) (λ h. rw h (rw h)) (λ h. rw h (frame_same h))
 
-  pub opened_same : parsed s st ≡ opened s st
+  pub opened_same : parsed s st ≡ opened st s
   unfolding parsed
-  opened_same = rw (opening_first slots s 0) (outcome_bind st (read_opening s 0) _ _ ∙ outcome_same st (read_opening s 0) _ _ kind_same)
+  opened_same = rw (opening_first slots s 0) (outcome_bind st (read_opening s 0) _ _ ∙ outcome_same st _ (read_opening s 0) _ _ kind_same)
 
-pub as_opened : (s : List ℕ) (st : ReaderState) (y : HeaderRead) → y ≡ opened s st → y ≡ parsed s st
+pub as_opened : (s : List ℕ) (st : ReaderState) (y : HeaderRead) → y ≡ opened st s → y ≡ parsed s st
 as_opened s st y e = e ∙ sym (opened_same s st)

@@ -6,8 +6,7 @@ use Rattle.base_syntax.specs.Reader.{Read, read, stopped}
 use Rattle.base_types.specs.declared.state.ReaderState.{ReaderState}
 use Rattle.grammar_tables.specs.Reading.{read_header}
 use Rattle.grammar_record.specs.Record.{header_of, state_after}
-use Rattle.header_answer.specs.declared.HeaderRead.{HeaderRead}
-use Rattle.header_answer.specs.Answer.{accepted, refused_with}
+use Rattle.header_answer.specs.Answer.{HeaderRead, accepted, refused_with}
 
 -- reading: what it comes to: f makes an answer of its value and the place past it
 abbrev pub outcome : {A : Type 0} → ReaderState → (A → ℕ → HeaderRead) → Read A → HeaderRead

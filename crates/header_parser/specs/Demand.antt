@@ -11,8 +11,7 @@ use Rattle.base_size.specs.declared.FrameSize.{FrameSize}
 use Rattle.base_types.specs.declared.state.ReaderState.{ReaderState}
 use Rattle.grammar_tables.specs.Header.{HeaderValues, header_fields, Spelled}
 use Rattle.grammar_record.specs.Record.{header_of, state_after}
-use Rattle.header_answer.specs.declared.HeaderRead.{HeaderRead}
-use Rattle.header_answer.specs.Answer.{accepted, refused_with}
+use Rattle.header_answer.specs.Answer.{HeaderRead, accepted, refused_with}
 
 -- some values are spelled there, under the remembered sizes
 abbrev pub IsSpelled : List FrameSize → List ℕ → Type 0

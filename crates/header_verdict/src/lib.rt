@@ -1,54 +1,63 @@
-// What is said of a header, accepted or a refusal, and of a frame by where it lies.
+// Why a frame of a chunk is refused, and the numbers of what is answered.
 #![tactic(auto)]
 
 ghost use Rattle.std.specs.Prelude.{◌≡◌};
-ghost use Rattle.header_verdict.specs.Verdict.{verdict_number, place_number, place_frame};
+ghost use Rattle.header_verdict.specs.declared.FrameRefusal.TheVariants.{Header};
+ghost use Rattle.header_verdict.specs.Verdict.{
+  verdict_number,
+  verdict_of,
+  place_number,
+  place_frame,
+  place_of,
+};
 
 use base_bits::Refusal;
 
-#[derive(Clone, Copy)]
-pub enum Verdict {
-    Accepted,
-    Refused(Refusal),
-}
+// The number of what is accepted.
+const ACCEPTED: u8 = 0;
 
-impl Verdict {
-    // docs/RULES.md's number, and 0 for what is accepted.
-    pub fn number(self) -> u8
-        ensures { result ≡ verdict_number self }
-    {
-        match self {
-            Verdict::Accepted => 0,
-            Verdict::Refused(e) => e.number(),
-        }
+// docs/RULES.md's number, and 0 for what is accepted.
+pub fn header_number<T>(answer: &Result<T, Refusal>) -> u8
+    ensures { result ≡ verdict_number (verdict_of answer.now) }
+{
+    match answer {
+        Ok(_) => ACCEPTED,
+        Err(e) => e.number(),
     }
 }
 
-// Whether a frame lies in its chunk, and if so what its header says.
-#[derive(Clone, Copy)]
-pub enum Place {
+// Why a frame is refused: it lies outside its chunk, or its header says why.
+#[derive(Clone, Copy, Debug, PartialEq, Eq)]
+pub enum FrameRefusal {
     Outside,
-    Inside(Verdict),
+    Header(Refusal),
 }
 
-impl Place {
-    // docs/RULES.md's number, and 0 for what is accepted.
-    pub fn number(self) -> u8
-        ensures { result ≡ place_number self }
-    {
-        match self {
-            Place::Outside => 3,
-            Place::Inside(v) => v.number(),
-        }
-    }
+impl From<Refusal> for FrameRefusal {
+    ghost from_gives = { λ e r. r ≡ Header e };
 
-    // The frame number that comes with it: a single frame is frame 0.
-    pub fn frame(self) -> usize
-        ensures { result ≡ place_frame self }
-    {
-        match self {
-            Place::Outside => 0,
-            Place::Inside(_) => 0,
-        }
+    fn from(e: Refusal) -> FrameRefusal {
+        FrameRefusal::Header(e)
+    }
+}
+
+// The same of a frame, with 3 for one that lies outside its chunk.
+pub fn frame_number<T>(answer: &Result<T, FrameRefusal>) -> u8
+    ensures { result ≡ place_number (place_of answer.now) }
+{
+    match answer {
+        Ok(_) => ACCEPTED,
+        Err(FrameRefusal::Outside) => 3,
+        Err(FrameRefusal::Header(e)) => e.number(),
+    }
+}
+
+// The frame number that comes with it: a single frame is frame 0.
+pub fn frame_index<T>(answer: &Result<T, FrameRefusal>) -> usize
+    ensures { result ≡ place_frame (place_of answer.now) }
+{
+    match answer {
+        Err(FrameRefusal::Outside) => 0,
+        _ => 0,
     }
 }

@@ -390,21 +390,24 @@ impl Series {
         offset: usize,
         size: usize,
     ) -> Result<(), Error> {
-        let read = chunk_frame::parse_frame(s, offset, size, self.state);
-        let number = read.place.number();
-        if number == 0 {
-            let place = Place {
-                chunk: self.chunk,
-                frame: 0,
-                at: 0,
-                size,
-            };
-            self.list_frame(streams, page, place, read.header)?;
-        } else {
-            page.make_room(streams)?;
-            page.put_refusal(self.chunk, number, 0);
+        let mut state = self.state;
+        let read = chunk_frame::parse_frame(s, offset, size, &mut state);
+        match read {
+            Ok(header) => {
+                let place = Place {
+                    chunk: self.chunk,
+                    frame: 0,
+                    at: 0,
+                    size,
+                };
+                self.list_frame(streams, page, place, header)?;
+            }
+            Err(_) => {
+                page.make_room(streams)?;
+                page.put_refusal(self.chunk, header_verdict::frame_number(&read), 0);
+            }
         }
-        self.end_chunk(streams, page, read.state)
+        self.end_chunk(streams, page, state)
     }
 
     fn answer(

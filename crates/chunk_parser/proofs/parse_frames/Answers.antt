@@ -1,5 +1,5 @@
 use borrow.Author.Rules.{rules}
-use mathlib.Core.Path.{◌∙◌}
+use mathlib.Core.Path.{refl, ◌∙◌}
 use native.Mathlib.Omega.{arith}
 use Rattle.header_parser.specs.Answer.{parsed}
 use Rattle.chunk_judged.proofs.Walk.{walked_none, inside, walked_more, walked_fault, walked_all}
@@ -14,15 +14,11 @@ overflow_add-to c = search (rules, inside parsed c.loop-i.invariant c.loop-i-tes
 pub slice_bounds-parse_frame_header-end : goal.slice_bounds-parse_frame_header-end
 slice_bounds-parse_frame_header-end c = search (rules, inside parsed c.loop-i.invariant c.loop-i-test.true)
 
-pub returns-in-Refused : goal.returns-in-Refused
-returns-in-Refused c =
-    let r = c.parse_frame_header-read in
-    c.refused.ensures ∙ walked_fault parsed c.loop-i.invariant c.loop-i-test.true _ r.ensures _ (search rules)
+pub returns-in-Err : goal.returns-in-Err
+returns-in-Err c = c.refused.ensures ∙ walked_fault parsed c.loop-i.invariant c.loop-i-test.true _ c.in-Err.ensures.told _ refl
 
 pub loop-i-preserved : goal.loop-i-preserved
-loop-i-preserved c =
-    let r = c.parse_frame_header-read in
-    walked_more parsed c.loop-i.invariant c.loop-i-test.true _ r.ensures (search rules)
+loop-i-preserved c = walked_more parsed c.loop-i.invariant c.loop-i-test.true _ c.in-Ok.ensures.told refl
 
 pub returns : goal.returns
 returns c = walked_all parsed c.loop-i.invariant (omega arith)

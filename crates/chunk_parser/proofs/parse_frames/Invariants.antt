@@ -3,4 +3,4 @@ use Rattle.chunk_judged.proofs.Walk.{Walked}
 use Rattle.chunk_parser.proofs.parse_frames.Given as goal
 
 abbrev pub invariant-loop-i : goal.invariant-loop-i
-invariant-loop-i l = Walked parsed l.chunk l.initial.state l.count l.at l.size l.i l.headers l.state
+invariant-loop-i l = Walked parsed l.chunk l.initial.state l.count l.places.at l.places.size l.i l.headers l.state
