@@ -17,7 +17,7 @@ pub enum Answer {
     Past(usize),
 }
 
-// The frames' places, beside the answer, since no enum can hold an array.
+// The frames' places, beside the answer: a refusal has none, but for zeros.
 #[derive(Clone, Copy)]
 pub struct Split {
     pub answer: Answer,
