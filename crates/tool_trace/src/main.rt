@@ -536,7 +536,6 @@ fn trace_file(streams: &mut Streams, mut page: Page, buf: &mut [u8]) -> Ending {
             Yields::More => {
                 // What was read before a read failed is printed, and the failure is said already.
                 if input.behind == Behind::Failure {
-                    ending = Ending::Said;
                     break;
                 }
                 input = input.refill(streams, buf);
