@@ -20,6 +20,6 @@ abbrev pub refused_with : ReaderState → Refusal → HeaderRead
 refused_with st e = record { verdict = Refused e; header = default_header; state = st }
 
 -- what a Result says, with the state after
-abbrev pub told : ReaderState → Result Header Refusal → HeaderRead
-told st (Ok h) = accepted h st
-told st (Err e) = refused_with st e
+abbrev pub header_told : ReaderState → Result Header Refusal → HeaderRead
+header_told st (Ok h) = accepted h st
+header_told st (Err e) = refused_with st e

@@ -11,7 +11,7 @@ use Rattle.base_bits.specs.declared.Refusal.{Refusal}
 use Rattle.base_syntax.specs.Reader.{Read, read, stopped, bind, over}
 use Rattle.base_types.specs.declared.header.Header.{Header}
 use Rattle.base_types.specs.declared.state.ReaderState.{ReaderState}
-use Rattle.header_answer.specs.Answer.{HeaderRead, refused_with, told}
+use Rattle.header_answer.specs.Answer.{HeaderRead, refused_with, header_told}
 use Rattle.header_parser.specs.Answer.{outcome}
 
 -- what is answered to what a group was read as: a refusal, or what k makes of the value and the place past it
@@ -24,7 +24,7 @@ module _ {A : Type 0} (st : ReaderState) (k : A → ℕ → HeaderRead) {r x : R
   pub step : {v : A × Cursor} {y : HeaderRead} → b ≡ Continue v → y ≡ k v.0 v.1.at → y ≡ onward st k x
   step h t = t ∙ ap (onward st k) (sym (rw h at d) ∙ e)
 
-  pub stop : {z : _} (o : Result Header Refusal) → b ≡ Break z → IsErrAnd o (λ w. w ≡ z.0) → told st o ≡ onward st k x
+  pub stop : {z : _} (o : Result Header Refusal) → b ≡ Break z → IsErrAnd o (λ w. w ≡ z.0) → header_told st o ≡ onward st k x
   stop o h i = let j = err_from_is_err_and o i in rw (j.1, j.2) (ap (onward st k) (sym (rw h at d) ∙ e))
 
 -- one reading after another

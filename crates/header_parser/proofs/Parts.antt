@@ -24,7 +24,7 @@ use Rattle.header_tail.specs.Settings.{read_settings, settings_of}
 use Rattle.header_tail.specs.Closing.{read_closing, closing_of}
 use Rattle.header_record.specs.Record.{independent, cut_length, frame_record}
 use Rattle.header_state.specs.State.{frame_state}
-use Rattle.header_answer.specs.Answer.{HeaderRead, accepted, told}
+use Rattle.header_answer.specs.Answer.{HeaderRead, accepted, header_told}
 use Rattle.header_parser.specs.Parts.{remembered_color, shown_header}
 use Rattle.header_parser.proofs.Outcomes.{onward, step, stop}
 
@@ -46,7 +46,7 @@ module _ (st : ReaderState) where
 
   -- past the opening, and at its refusal
   module _ (s : List ℕ) (x : Cursor) (ex : x ≡ record { at = 0 }) (r : Result (Opening × Cursor) Refusal) (e : r ≡ over opening_of (read_opening s x.at)) {b : _} (d : r ≡ result_from_control_flow b) where
-    pub opened_stop : {z : _} (o : Result Header Refusal) → b ≡ Break z → IsErrAnd o (λ w. w ≡ z.0) → told st o ≡ opened s
+    pub opened_stop : {z : _} (o : Result Header Refusal) → b ≡ Break z → IsErrAnd o (λ w. w ≡ z.0) → header_told st o ≡ opened s
     opened_stop = stop st _ (rw ex at e) d
 
     pub opened_shown : (o : Opening) (c : Cursor) (h : Header) → b ≡ Continue (o, c) → o.show_existing_frame ≡ true → h ≡ shown_header o → accepted h st ≡ opened s
@@ -57,21 +57,21 @@ module _ (st : ReaderState) where
 
   module _ (profile : ℕ) (s : List ℕ) (p : ℕ) where
     module _ (x : Color) (ex : x ≡ remembered_color st) (r : Result (Lead × Cursor) Refusal) (e : r ≡ over (lead_of profile x st.reference_frame_sz) (read_lead profile s p)) {b : _} (d : r ≡ result_from_control_flow b) where
-      pub lead_stop : {z : _} (o : Result Header Refusal) → b ≡ Break z → IsErrAnd o (λ w. w ≡ z.0) → told st o ≡ framed profile s p
+      pub lead_stop : {z : _} (o : Result Header Refusal) → b ≡ Break z → IsErrAnd o (λ w. w ≡ z.0) → header_told st o ≡ framed profile s p
       lead_stop = stop st _ (rw ex at e) d
 
       pub lead_step : (l : Lead) (c : Cursor) (y : HeaderRead) → b ≡ Continue (l, c) → y ≡ settled profile l s c.at → y ≡ framed profile s p
       lead_step l c y = step st _ (rw ex at e) d
 
     module _ (l : Lead) (i : Bool) (ei : i ≡ independent l) (r : Result (Settings × Cursor) Refusal) (e : r ≡ over (settings_of i st.lf st.seg) (read_settings s p)) {b : _} (d : r ≡ result_from_control_flow b) where
-      pub settings_stop : {z : _} (o : Result Header Refusal) → b ≡ Break z → IsErrAnd o (λ w. w ≡ z.0) → told st o ≡ settled profile l s p
+      pub settings_stop : {z : _} (o : Result Header Refusal) → b ≡ Break z → IsErrAnd o (λ w. w ≡ z.0) → header_told st o ≡ settled profile l s p
       settings_stop = stop st _ (rw ei at e) d
 
       pub settings_step : (g : Settings) (c : Cursor) (y : HeaderRead) → b ≡ Continue (g, c) → y ≡ finished profile l g s c.at → y ≡ settled profile l s p
       settings_step g c y = step st _ (rw ei at e) d
 
     module _ (l : Lead) (g : Settings) (r : Result (Closing × Cursor) Refusal) (e : r ≡ over (closing_of (width_of l)) (read_closing (width_of l) s p)) {b : _} (d : r ≡ result_from_control_flow b) where
-      pub closing_stop : {z : _} (o : Result Header Refusal) → b ≡ Break z → IsErrAnd o (λ w. w ≡ z.0) → told st o ≡ finished profile l g s p
+      pub closing_stop : {z : _} (o : Result Header Refusal) → b ≡ Break z → IsErrAnd o (λ w. w ≡ z.0) → header_told st o ≡ finished profile l g s p
       closing_stop = stop st _ e d
 
       pub closing_read : (v : Closing) (c : Cursor) (h : Header) (x : ReaderState) → b ≡ Continue (v, c) → h ≡ frame_record profile l g v (cut_length c.at) → x ≡ frame_state st profile l g → accepted h x ≡ finished profile l g s p

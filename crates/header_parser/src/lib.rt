@@ -3,7 +3,7 @@
 
 ghost use Rattle.std.specs.Prelude.{◌≡◌, OnErr};
 ghost use Rattle.header_parser.specs.Parts.{remembered_color, shown_header};
-ghost use Rattle.header_answer.specs.Answer.{told};
+ghost use Rattle.header_answer.specs.Answer.{header_told};
 ghost use Rattle.header_parser.specs.Answer.{parsed};
 
 use base_bits::{Cursor, Refusal};
@@ -33,7 +33,7 @@ fn shown_header(o: Opening) -> Header
 
 // One frame's bytes under a remembered state, which it changes if it accepts them. It never reads past their last.
 pub fn parse_frame_header(s: &[u8], st: &mut ReaderState) -> Result<Header, Refusal>
-    ensures told { told st.new result ≡ parsed s.now st.old }
+    ensures told { header_told st.new result ≡ parsed s.now st.old }
     ensures kept { OnErr result (st.new ≡ st.old) }
 {
     let (opening, c) = part_opening::parse_opening(s, Cursor::start())?;
