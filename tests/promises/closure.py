@@ -1,9 +1,11 @@
 """The definitions of the crates, and what each of them names: for lines.py.
 
 A file of specs/ or proofs/ is read into its definitions, a file of src/ into its types, constants and functions; of a
-function the head with its promise is kept. A name is looked up as the prover does it: among the file's own, and what
-its `use` lines bring in. What comes from the kit is a leaf. A name that is found nowhere is a fault, so that nothing is
-passed over. A field's name isn't followed: its record is reached by the types, and that it is one is checked."""
+function the head with its promise is kept. A function of a trait is promised by the trait's ghost members, which are
+kept with it; its name is TYPE::TRAIT::FUNCTION, as `u32::From<Profile>::from`. A name is looked up as the prover does
+it: among the file's own, and what its `use` lines bring in. What comes from the kit is a leaf. A name that is found
+nowhere is a fault, so that nothing is passed over. A field's name isn't followed: its record is reached by the types,
+and that it is one is checked."""
 
 import os
 import re
@@ -18,10 +20,12 @@ LANGUAGE = set("Type → × Unit ⊥ tt λ let in record do ← = : where _ . �
 PROMISE = {"result", "self"}
 # The fields of a reference.
 REFERENCE = {"now", "old", "new", "entry", "exit", "ref_ptr"}
-RUST = set("pub mut self usize isize bool true false u8 u16 u32 u64 i8 i16 i32 i64".split())
+RUST = set("pub mut self usize isize bool true false u8 u16 u32 u64 i8 i16 i32 i64 Result Option".split())
 
 TOKEN = re.compile(r'"(?:\\.|[^"\\])*"|--.*|[(){};,]|(?:(?<=\s)|(?<=[({]))\.[^\s(){};,.]+|[^\s(){};,"]+')
 HEAD = re.compile(r"\s*(?:(?:abbrev|unfoldable) )?(?:pub )?(?:(data|record) (\S+)|(\S+) :(?: |$))")
+IMPL = re.compile(r"impl(?:<.*?>)? (?:(\w+(?:<.*?>)?) for )?(\w+)")
+MEMBER = re.compile(r"\s*ghost (?!use )(\w+) = (.*)")
 USE = re.compile(r"(?:ghost )?use (\S+?)(?:\.\{(.*)\}| as (\S+?))?;?$", re.S)
 
 
@@ -39,7 +43,12 @@ class Definition:
 
     @property
     def public(self):
-        return any(re.match(r"\s*(abbrev |unfoldable )?pub ", line) for line in self.code)
+        return any(re.match(r"\s*(abbrev |unfoldable )?pub ", line) for line in self.code) or self.of_trait
+
+    @property
+    def of_trait(self):
+        """Whether it stands in an `impl` of a trait, whose functions are public though no `pub` says so."""
+        return any(IMPL.match(line) and IMPL.match(line).group(1) for line in self.outer)
 
     def head(self):
         """The lines down to the first equation: of a definition its type, of a theorem its statement."""
@@ -158,7 +167,7 @@ def items(lines):
 
 def read_code(file, lines):
     """The types, constants and functions of a file of src/; of a function the head with its promise."""
-    outer, waiting, current = [], [], None
+    outer, waiting, members, current = [], [], [], None
     for place, line in enumerate(whole_uses(lines)):
         bare = line.strip()
         if current:
@@ -172,24 +181,28 @@ def read_code(file, lines):
         elif bare.startswith("#"):
             continue
         elif bare.startswith("impl"):
-            outer, waiting = [line], []
+            outer, waiting, members = [line], [], []
+        elif MEMBER.match(line) or (members and not members[-1].endswith("};")):
+            members.append(line)
         elif line == "}":
-            outer, waiting = [], []
+            outer, waiting, members = [], [], []
         else:
-            current = begin(file, line, outer, waiting)
+            current = begin(file, line, outer, waiting, members)
             waiting = []
     for each in file.definitions:
         code_parts(each)
 
 
-def begin(file, line, outer, comment):
+def begin(file, line, outer, comment, members):
     """A definition of src/ that starts on this line, or None; what ends on it is put away at once."""
     found = re.match(r"\s*(?:pub )?(struct|enum|type|const|fn) (\w+)", line)
     if not found:
         return None
-    owner = re.match(r"impl(?:<.*?>)? (\w+)", outer[0]).group(1) + "::" if outer else ""
-    current = Definition(file, owner + found.group(2), found.group(1), outer, "")
+    trait, owner = IMPL.match(outer[0]).groups() if outer else (None, None)
+    name = "::".join(each for each in (owner, trait, found.group(2)) if each)
+    current = Definition(file, name, found.group(1), outer, "")
     current.comment = list(comment)
+    current.code = list(members) if current.kind == "fn" else []
     file.definitions.append(current)
     return add_line(current, line)
 
@@ -204,7 +217,7 @@ def add_line(current, line):
         current.in_body = True
         return current
     current.code.append(line)
-    ends = (";",) if current.kind in ("type", "const") else ("}",)
+    ends = {"type": (";",), "const": (";",), "struct": (";", "}")}.get(current.kind, ("}",))
     ended = current.kind != "fn" and line.endswith(ends) and indent(line) == level
     return None if ended else current
 
@@ -408,17 +421,21 @@ def parts(name):
 def code_mentions(definition, named):
     """Of a type, constant or function of src/: the types and constants, and what the promise names."""
     text = "\n".join(line for line in definition.code if not is_comment(line))
+    members, text = re.match(r"((?:\s*ghost .*?\};\n)*)(.*)$", text, re.S).groups()
     text, promise = re.match(r"(.*?)((?:\n\s*(?:requires|ensures)\b.*)?)$", text, re.S).groups()
     local = set(re.findall(r"(\w+):", text)) | {f"«{name}»" for name in re.findall(r"(\w+):", text)}
     promise = re.sub(r"\b(requires|ensures) \w+ \{", r"\1 {", promise)
+    promise = re.sub(r"\bghost \w+ = (.*?\});", r"\1", members, flags=re.S) + promise
     tokens = [token for token in TOKEN.findall(promise) if not token.startswith('"')]
     named.take(definition.file.scope, tokens, local | bound(tokens) | PROMISE)
+    generic = re.search(r"\b(?:fn|struct|enum|type) \w+<(.*?)>", text)
+    generic = re.findall(r"\w+", generic.group(1)) if generic else []
     text = re.sub(r"'\w+", "", re.sub(r"(\w+):(?!:)", "", re.sub(r"\b(fn|struct|enum|type|const) \w+", "", text)))
     own = definition.name.split("::")[0]
     named.keys |= look_up_path(definition.file, [own]) if definition.outer else set()
     for path in re.findall(r"\w+(?:::\w+)*", text):
         steps = [own if step == "Self" else step for step in path.split("::")]
-        if steps[0] in RUST or is_number(steps[0]) or steps[0] in definition.constructors:
+        if steps[0] in RUST or is_number(steps[0]) or steps[0] in definition.constructors + generic:
             continue
         keys = look_up_path(definition.file, steps)
         named.names.add(steps[0])

@@ -24,7 +24,7 @@ import os
 import re
 import sys
 
-from closure import KIT, ROOT, Reached, World, is_comment, lost_lines, mentions, parts, taken
+from closure import KIT, MEMBER, ROOT, Reached, World, is_comment, lost_lines, mentions, parts, taken
 
 PROVED = ("reading", "the code's answer")
 TOLD = "-- what it answers is said by theorems: see `promised` below"
@@ -67,16 +67,16 @@ PARTS = {
         {"spelling": "which bits are a header: fields, field values, spelling",
          "record": "its record and the state after, with every default",
          "refusals": "the number of a refusal, and the demand"},
-        "header_parser/src/lib.parse_frame_header header_verdict/src/lib.Verdict::number",
+        "header_parser/src/lib.parse_frame_header header_verdict/src/lib.header_number",
         HEADER),
-    "state": Part({"": "a fresh state"}, "base_types/src/state.ReaderState::fresh", [("", "base_types/*")]),
+    "state": Part({"": "a fresh state"}, "base_types/src/state.ReaderState::Default::*", [("", "base_types/*")]),
     "numbers": Part(
         {"": "the enums' numbers, a segment's features"},
         "base_enums/src/lib.*::* base_segmentation/src/lib.SegmentationParams::*feature*",
         [("", "base_enums/* base_segmentation/*")]),
     "frame": Part(
         {"": "a single frame of a chunk"},
-        "chunk_frame/src/lib.parse_frame header_verdict/src/lib.Place::*",
+        "chunk_frame/src/lib.parse_frame header_verdict/src/lib.frame_*",
         [("", "header_verdict/* chunk_frame/*")]),
     "chunk": Part(
         {"": "a chunk"},
@@ -314,7 +314,7 @@ def is_proof(definition):
 
 
 def promises_something(definition):
-    return is_proof(definition) or any("ensures" in line for line in definition.code)
+    return is_proof(definition) or any("ensures" in line or MEMBER.match(line) for line in definition.code)
 
 
 def closing(outer, following):
