@@ -53,9 +53,9 @@ HEADER = [
     ("record", "grammar_settings/specs/* grammar_record/specs/* base_enums/specs/*"),
     ("record", "base_loop_filter/specs/* base_quantization/specs/* base_segmentation/specs/*"),
     ("record", "base_types/specs/Header base_slots/specs/*"),
-    ("refusals", "header_verdict/src/*"),
+    ("refusals", "header_verdict/*"),
     ("record", "header_answer/* header_parser/src/* header_parser/specs/Answer"),
-    ("refusals", "base_syntax/specs/Fault header_verdict/specs/* header_parser/specs/Demand"),
+    ("refusals", "base_syntax/specs/Fault header_parser/specs/Demand"),
 ]
 
 Part = collections.namedtuple("Part", "rows roots reading")
