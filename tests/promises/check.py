@@ -25,10 +25,10 @@ CRATES = os.path.join(ROOT, "crates")
 NAME = re.compile(r"`(?:([a-z_]+)/)?([a-z_0-9]+)`")
 EXCEPTED = "Edits of a promise alone, or of a proof"
 
-# What of a file of src/ is no code: comments, imports for promises, and promises, those of a trait's ghost members among
-# them, whose braces nest once at most.
-NO_CODE = re.compile(
-    r"//[^\n]*|^ghost use [^;]*;|\b(?:(?:requires|ensures)(?: \w+)?|ghost \w+ =) \{(?:[^{}]|\{[^{}]*\})*\}", re.M)
+# What of a file of src/ is no code: comments, imports for promises, and promises, whose braces nest once at most. A
+# trait's functions have their promises in ghost members.
+NO_CODE = re.compile(r"//[^\n]*|^ghost use [^;]*;|"
+                     r"\b(?:(?:requires|ensures)(?: \w+)?|ghost \w+ =) \{(?:[^{}]|\{[^{}]*\})*\}", re.M)
 
 
 def read(*path):
