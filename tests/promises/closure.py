@@ -20,7 +20,9 @@ LANGUAGE = set("Type → × Unit ⊥ tt λ let in record do ← = : where _ . �
 PROMISE = {"result", "self"}
 # The fields of a reference.
 REFERENCE = {"now", "old", "new", "entry", "exit", "ref_ptr"}
-RUST = set("pub mut self usize isize bool true false u8 u16 u32 u64 i8 i16 i32 i64 Result Option".split())
+RUST = set("pub mut self usize isize bool true false u8 u16 u32 u64 i8 i16 i32 i64".split())
+# Types that the kit has, unless a crate has its own of that name.
+KIT_TYPES = {"Result", "Option"}
 
 TOKEN = re.compile(r'"(?:\\.|[^"\\])*"|--.*|[(){};,]|(?:(?<=\s)|(?<=[({]))\.[^\s(){};,.]+|[^\s(){};,"]+')
 HEAD = re.compile(r"\s*(?:(?:abbrev|unfoldable) )?(?:pub )?(?:(data|record) (\S+)|(\S+) :(?: |$))")
@@ -440,7 +442,7 @@ def code_mentions(definition, named):
         keys = look_up_path(definition.file, steps)
         named.names.add(steps[0])
         named.keys |= keys
-        named.unknown |= set() if keys else {path}
+        named.unknown |= set() if keys or steps[0] in KIT_TYPES else {path}
 
 
 def taken(line):
