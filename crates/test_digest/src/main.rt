@@ -458,10 +458,14 @@ impl Record<'_> {
 fn answer(lines: &mut Lines, record: Record, series: Series) -> Series {
     match record {
         Record::Fresh => Series::fresh(),
-        Record::State(s) => Series {
-            state: state_of(s),
-            segments: series.segments,
-        },
+        Record::State(s) => {
+            // The borrow checker wants an array of a field in a variable first.
+            let segments = series.segments;
+            Series {
+                state: state_of(s),
+                segments,
+            }
+        }
         Record::Chunk(s, work) => {
             let told = tell_last(s, work, series);
             lines.put_line(told);
