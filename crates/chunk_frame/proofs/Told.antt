@@ -7,7 +7,7 @@ use Rattle.base_types.specs.declared.header.Header.{Header}
 use Rattle.base_types.specs.declared.state.ReaderState.{ReaderState}
 use Rattle.header_verdict.specs.declared.FrameRefusal.{FrameRefusal}
 use Rattle.header_verdict.specs.declared.FrameRefusal.TheVariants as refusal
-use Rattle.header_verdict.specs.Verdict.{Verdict, Accepted, Refused, Place, Outside, Inside}
+use Rattle.header_verdict.specs.Verdict.{Verdict, Accepted, Refused, Place, Outside, Inside, verdict_of, place_of}
 use Rattle.header_answer.specs.Answer.{HeaderRead, header_told}
 use Rattle.chunk_frame.specs.Place.{FrameRead, frame_told}
 
@@ -51,3 +51,12 @@ one_frame_told s t r q e = (
   sym (frame_back s r) ∙ ap (λ (a : FrameRead). as_frame a.place a.header) e ∙ frame_back t q,
   sym (frame_state s r) ∙ ap (λ (a : FrameRead). a.state) e ∙ frame_state t q,
 )
+
+-- what an answer's number goes by is what is told of it
+pub verdict_told : (st : ReaderState) (r : Result Header Refusal) → (header_told st r).verdict ≡ verdict_of r
+verdict_told st (Ok h) = refl
+verdict_told st (Err e) = refl
+
+pub place_told : (st : ReaderState) (r : Result Header FrameRefusal) → (frame_told st r).place ≡ place_of r
+place_told st (Ok h) = refl
+place_told st (Err e) = refl
