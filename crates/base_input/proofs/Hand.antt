@@ -14,7 +14,6 @@ use Rattle.base_buffer.specs.Front.{held, front_of}
 use Rattle.std.specs.Prelude.{Ok, Err}
 use Rattle.base_stream.specs.declared.Unfilled.TheVariants.{Ended, Failed}
 use Rattle.base_stream.specs.Stream.{Filled, FilledFrom}
-use Rattle.base_input.specs.declared.Behind.TheVariants.{End, Failure}
 use Rattle.base_input.specs.declared.Input.{Input}
 use Rattle.base_input.specs.Input.{used_of, hand_of, filled_by, FilledBehind}
 
@@ -66,8 +65,8 @@ module _ (before : List ℕ) (i : Input) where
 
   -- the input's end is told, and a failed read is none
   module _ {r : Input} {after : List ℕ} (h : FilledBehind before i r after) (end : ℕ) where
-    pub end_told : h.filled ≡ Err (Ended end) → r.behind ≡ End
-    end_told e = rw (h.result, e) refl
+    pub end_told : h.filled ≡ Err (Ended end) → (r.ended ≡ true) × (r.failed ≡ false)
+    end_told e = rw (h.result, e) (refl, refl)
 
-    pub failure_told : (why : _) → h.filled ≡ Err (Failed end why) → r.behind ≡ Failure
-    failure_told why e = rw (h.result, e) refl
+    pub failure_told : (why : _) → h.filled ≡ Err (Failed end why) → (r.ended ≡ false) × (r.failed ≡ true)
+    failure_told why e = rw (h.result, e) (refl, refl)

@@ -1,19 +1,18 @@
 -- What is read of standard input and not used yet. Which bytes come, no contract can say.
 -- Assumes nothing.
-use Rattle.std.specs.Prelude.{ℕ, ◌+◌, min, ◌≡◌, List, length, take, drop, Ok, Err}
+use Rattle.std.specs.Prelude.{ℕ, ◌+◌, min, ◌≡◌, true, false, List, length, take, drop, Ok, Err}
+use Rattle.base_shared.specs.Choice.{pick_t}
 use Rattle.base_buffer.specs.Front.{held, front_of}
 use Rattle.base_stream.specs.declared.Unfilled.TheVariants.{Ended, Failed}
 use Rattle.base_stream.specs.Stream.{Filled, FilledFrom}
-use Rattle.base_input.specs.declared.Behind.{Behind}
-use Rattle.base_input.specs.declared.Behind.TheVariants.{More, End, Failure}
 use Rattle.base_input.specs.declared.Input.{Input}
 
 abbrev pub fresh_input : Input
-fresh_input = record { start = 0; end = 0; behind = More }
+fresh_input = record { start = 0; end = 0; ended = false; failed = false }
 
 -- n bytes are used, or all that are at hand
 abbrev pub used_of : Input → ℕ → Input
-used_of i n = record { start = min (i.start + n) i.end; end = i.end; behind = i.behind }
+used_of i n = record { start = min (i.start + n) i.end; end = i.end; ended = i.ended; failed = i.failed }
 
 -- what is at hand in a buffer
 abbrev pub hand_of : List ℕ → Input → List ℕ
@@ -21,9 +20,9 @@ hand_of buf i = drop i.start (take i.end buf)
 
 -- as a buffer of so many bytes was filled
 abbrev pub filled_by : ℕ → Filled → Input
-filled_by size (Ok _) = record { start = 0; end = size; behind = More }
-filled_by size (Err (Ended end)) = record { start = 0; end = end; behind = End }
-filled_by size (Err (Failed end why)) = record { start = 0; end = end; behind = Failure }
+filled_by size (Ok _) = record { start = 0; end = size; ended = false; failed = false }
+filled_by size (Err (Ended end)) = record { start = 0; end = end; ended = true; failed = false }
+filled_by size (Err (Failed end why)) = record { start = 0; end = end; ended = false; failed = true }
 
 -- what was at hand lies at the buffer's front, and the buffer is filled behind it
 pub record FilledBehind (before : List ℕ) (i r : Input) (after : List ℕ) : Type 0 where
@@ -32,9 +31,5 @@ pub record FilledBehind (before : List ℕ) (i r : Input) (after : List ℕ) : T
   pub result : r ≡ filled_by (length before) filled
 
 -- once a read failed nothing is done
-abbrev pub RefilledWhere : Behind → List ℕ → Input → Input → List ℕ → Type 0
-RefilledWhere Failure before i r after = (r ≡ i) × (after ≡ before)
-RefilledWhere _ before i r after = FilledBehind before i r after
-
 abbrev pub Refilled : List ℕ → Input → Input → List ℕ → Type 0
-Refilled before i = RefilledWhere i.behind before i
+Refilled before i r after = pick_t i.failed ((r ≡ i) × (after ≡ before)) (FilledBehind before i r after)

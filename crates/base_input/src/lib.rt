@@ -7,23 +7,15 @@ ghost use Rattle.base_input.specs.Input.{fresh_input, used_of, hand_of, filled_b
 use base_parts::{front, rest};
 use base_stream::{Ending, Streams, Unfilled};
 
-// What follows the bytes that are read.
-#[derive(Clone, Copy, PartialEq, Eq)]
-pub enum Behind {
-    // Perhaps more.
-    More,
-    // Nothing.
-    End,
-    // A read failed there, which is said already.
-    Failure,
-}
-
 #[derive(Clone, Copy)]
 pub struct Input {
     // What is read and not used yet lies from `start` to `end`.
     pub start: usize,
     pub end: usize,
-    pub behind: Behind,
+    // Nothing follows it.
+    pub ended: bool,
+    // A read failed behind it, which is said already.
+    pub failed: bool,
 }
 
 // The place n bytes on, which is never past the end.
@@ -41,7 +33,8 @@ impl Input {
         Input {
             start: 0,
             end: 0,
-            behind: Behind::More,
+            ended: false,
+            failed: false,
         }
     }
 
@@ -64,7 +57,7 @@ impl Input {
     pub fn refill(self, streams: &mut Streams, buf: &mut [u8]) -> Input
         ensures { Refilled buf.old self result buf.new }
     {
-        if self.behind == Behind::Failure {
+        if self.failed {
             return self;
         }
         let n = base_buffer::to_front(buf, self.start, self.end);
@@ -80,14 +73,15 @@ impl Input {
 fn filled_by(size: usize, filled: Result<(), Unfilled>) -> Input
     ensures { result ≡ filled_by size filled }
 {
-    let (end, behind) = match filled {
-        Ok(()) => (size, Behind::More),
-        Err(Unfilled::Ended(end)) => (end, Behind::End),
-        Err(Unfilled::Failed(end, _)) => (end, Behind::Failure),
+    let (end, ended, failed) = match filled {
+        Ok(()) => (size, false, false),
+        Err(Unfilled::Ended(end)) => (end, true, false),
+        Err(Unfilled::Failed(end, _)) => (end, false, true),
     };
     Input {
         start: 0,
         end,
-        behind,
+        ended,
+        failed,
     }
 }

@@ -5,7 +5,7 @@
 ghost use Rattle.std.specs.Prelude.{◌≤◌, ◌≡◌, length};
 
 use base_enums::{BitDepth, ColorRange, ColorSpace};
-use base_input::{Behind, Input};
+use base_input::Input;
 use base_loop_filter::LoopFilterParams;
 use base_parts::{front, rest};
 use base_quantization::QuantizationParams;
@@ -479,7 +479,7 @@ fn answer(lines: &mut Lines, record: Record, series: Series) -> Series {
 
 // With a whole record at hand, if the input has one.
 fn filled(streams: &mut Streams, buf: &mut [u8], input: Input) -> Input {
-    if input.behind == Behind::End || input.at_hand(buf).len() >= LONGEST_RECORD {
+    if input.ended || input.at_hand(buf).len() >= LONGEST_RECORD {
         input
     } else {
         input.refill(streams, buf)
@@ -496,7 +496,7 @@ fn answer_all(streams: &mut Streams, buf: &mut [u8], out: &mut [u8]) -> Ending {
             return Ending::Unwritten(why);
         }
         input = filled(streams, buf, input);
-        if input.behind == Behind::Failure {
+        if input.failed {
             return Ending::Said;
         }
         let Some(record) = next_record(input.at_hand(buf)) else {

@@ -6,7 +6,7 @@
 
 ghost use Rattle.std.specs.Prelude.{◌≡◌, length};
 
-use base_input::{Behind, Input};
+use base_input::Input;
 use base_stream::{Ending, Streams};
 use listing_lister::{Lister, ROOM, Wants};
 
@@ -20,7 +20,7 @@ fn list(streams: &mut Streams, buf: &mut [u8], out: &mut [u8]) -> Ending {
         let fed = listing_lister::feed(
             lister,
             input.at_hand(buf),
-            input.behind == Behind::End,
+            input.ended,
             out,
             at,
         );
@@ -34,7 +34,7 @@ fn list(streams: &mut Streams, buf: &mut [u8], out: &mut [u8]) -> Ending {
             },
             Wants::Input => {
                 // What was read before a read failed is listed, and the failure is said already.
-                if input.behind == Behind::Failure {
+                if input.failed {
                     break;
                 }
                 input = input.refill(streams, buf);
@@ -47,7 +47,7 @@ fn list(streams: &mut Streams, buf: &mut [u8], out: &mut [u8]) -> Ending {
             Wants::Whole | Wants::Nothing => break,
         }
     }
-    if input.behind == Behind::Failure {
+    if input.failed {
         ending = Ending::Said;
     }
     streams.finish(out, at, ending)
