@@ -136,26 +136,32 @@ fn words_length(text: &[u8]) -> usize
         .unwrap_or(end)
 }
 
-// What couldn't be done, and why.
-fn say_failed(errors: &mut Stderr, what: &[u8], why: Error) -> io::Result<()> {
+// What standard error doesn't take can't be said anywhere.
+fn say(errors: &mut Stderr, text: &[u8]) {
+    let _ = Write::write_all(errors, text);
+}
+
+// What couldn't be done, and why, in four writes: what one of them doesn't take the others still say.
+fn say_failed(errors: &mut Stderr, what: &[u8], why: Error) {
     let mut text = Cursor::new([0u8; 128]);
     let _ = write!(text, "{why}");
     let text = text.into_inner();
     let n = words_length(&text);
-    Write::write_all(errors, what)?;
-    Write::write_all(errors, &text[..n])?;
-    Write::write_all(errors, b"\n")
+    say(errors, what);
+    say(errors, b": ");
+    say(errors, &text[..n]);
+    say(errors, b"\n");
 }
 
 impl Ending {
     pub fn say(self, streams: &Streams) {
         let mut errors = streams.errors;
-        let _ = match self {
-            Ending::Done => Write::write_all(&mut errors, b"status 0\n"),
-            Ending::Refused => Write::write_all(&mut errors, b"status 1\n"),
-            Ending::Unread(e) => say_failed(&mut errors, b"can't read: ", e),
-            Ending::Unwritten(e) => say_failed(&mut errors, b"can't write: ", e),
-            Ending::Said => Ok(()),
-        };
+        match self {
+            Ending::Done => say(&mut errors, b"status 0\n"),
+            Ending::Refused => say(&mut errors, b"status 1\n"),
+            Ending::Unread(e) => say_failed(&mut errors, b"can't read", e),
+            Ending::Unwritten(e) => say_failed(&mut errors, b"can't write", e),
+            Ending::Said => {}
+        }
     }
 }
