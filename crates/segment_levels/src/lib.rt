@@ -84,7 +84,11 @@ fn keep(lf: LoopFilterParams, frame: Grid, old: Grid) -> Grid
         return frame;
     }
     if lf.delta_enabled {
-        [[frame[0][0], old[0][1]], frame[1], frame[2], frame[3]]
+        let intra = [frame[0][0], old[0][1]];
+        let last = frame[1];
+        let golden = frame[2];
+        let alt = frame[3];
+        [intra, last, golden, alt]
     } else {
         frame
     }
