@@ -7,6 +7,10 @@ ghost use Rattle.segment_features.specs.Features.{features_of};
 use base_enums::SegLvl;
 use base_segmentation::SegmentationParams;
 
+pub type Enabled = [bool; SegmentationParams::FEATURES];
+
+pub type Values = [i16; SegmentationParams::FEATURES];
+
 #[derive(Clone, Copy, Debug, PartialEq, Eq)]
 pub struct Features {
     pub absolute: bool,
