@@ -7,10 +7,10 @@
 // item by its form, and writes.
 #![tactic(auto)]
 
-ghost use Rattle.std.specs.Prelude.{◌≡◌, length};
+ghost use Rattle.std.specs.Prelude.{◌≡◌, ◌++◌, length};
 
 use base_enums::{BitDepth, ColorRange, ColorSpace, FrameType};
-use base_input::{Behind, Input};
+use base_input::Input;
 use base_loop_filter::LoopFilterParams;
 use base_parts::{front, rest};
 use base_quantization::QuantizationParams;
@@ -46,7 +46,9 @@ fn is_mark(c: u8) -> bool {
 }
 
 // The text before the first mark, and what stands from the mark on.
-fn next_mark(form: &[u8]) -> (&[u8], &[u8]) {
+fn next_mark(form: &[u8]) -> (&[u8], &[u8])
+    ensures { result.0.now ++ result.1.now ≡ form.now }
+{
     let n = form.iter().position(|c| is_mark(*c)).unwrap_or(form.len());
     (&form[..n], &form[n..])
 }
@@ -528,14 +530,14 @@ fn trace_file(streams: &mut Streams, mut page: Page, buf: &mut [u8]) -> Ending {
         let traced = listing_tracer::next_item(
             tracer,
             input.at_hand(buf),
-            input.behind == Behind::End,
+            input.ended,
         );
         tracer = traced.tracer;
         input = input.used(traced.used);
         match traced.yields {
             Yields::More => {
                 // What was read before a read failed is printed, and the failure is said already.
-                if input.behind == Behind::Failure {
+                if input.failed {
                     break;
                 }
                 input = input.refill(streams, buf);
@@ -553,7 +555,7 @@ fn trace_file(streams: &mut Streams, mut page: Page, buf: &mut [u8]) -> Ending {
             ending = Ending::Refused;
         }
     }
-    if input.behind == Behind::Failure {
+    if input.failed {
         ending = Ending::Said;
     }
     page.finish(streams, ending)
