@@ -8,12 +8,12 @@ use mir.Syntax.{w8}
 use Rattle.std.specs.Prelude.{Result, Ok}
 use Rattle.std.specs.Result.{result_from_control_flow}
 use Rattle.std.proofs.Common.{Continue}
-use Rattle.base_bits.specs.declared.BitsError.{BitsError}
 use Rattle.base_bits.specs.declared.Refusal.{Refusal}
 use Rattle.base_bits.specs.declared.Cursor.{Cursor}
 use Rattle.base_bits.specs.Read.{read_bits}
 use Rattle.base_syntax.specs.Reader.{over, read}
-use Rattle.base_syntax.proofs.Steps.{value_lt}
+use Rattle.part_field.specs.PastEnd.{past_end}
+use Rattle.part_field.proofs.Steps.{value_lt}
 use Rattle.part_color.specs.declared.Color.{Color}
 use Rattle.part_color.specs.Color.{color_of}
 use Rattle.grammar_tables.specs.Tables.{ColorValues}
@@ -25,7 +25,7 @@ use Rattle.header_picture.specs.Picture.{intra_picture}
 use Rattle.header_picture.specs.Key.{key_of}
 use Rattle.header_picture.specs.IntraOnly.{intra_only_of}
 
-pub refresh_fits : (s : List ℕ) (p : ℕ) (r : Result (ℕ × Cursor) BitsError) {b : _} (n : ℕ) (c : Cursor) → r ≡ read_bits s p 8 → r ≡ result_from_control_flow b → b ≡ Continue (n, c) → Fits w8 n
+pub refresh_fits : (s : List ℕ) (p : ℕ) (r : Result (ℕ × Cursor) Refusal) {b : _} (n : ℕ) (c : Cursor) → r ≡ past_end (read_bits s p 8) → r ≡ result_from_control_flow b → b ≡ Continue (n, c) → Fits w8 n
 refresh_fits s p r n c e t i = record { fits = value_lt s p 8 r n c e t i tt }
 
 module _ (profile n : ℕ) (p : Cursor) (x : Picture) (c : Color) (z : Sizes) (a : ColorValues) (b : SizesValues) where

@@ -65,7 +65,7 @@ pub fn parse_intra_only(s: &[u8], c: Cursor, profile: u32) -> Read<Picture>
 {
     let ((), c) = part_opening::parse_frame_sync_code(s, c)?;
     let (color, c) = part_color::parse_intra_color(s, c, profile)?;
-    let (refresh, c) = base_bits::read_bits(s, c, 8)?;
+    let (refresh, c) = part_field::read_field(s, c, 8)?;
     let slots = refresh as u8;
     let (sizes, c) = part_sizes::parse_sizes(s, c)?;
     Ok((Picture::intra(color, slots, sizes), c))

@@ -9,12 +9,12 @@ use mir.Syntax.{w16}
 use Rattle.std.specs.Prelude.{Result, Ok}
 use Rattle.std.specs.Result.{result_from_control_flow}
 use Rattle.std.proofs.Common.{Continue}
-use Rattle.base_bits.specs.declared.BitsError.{BitsError}
 use Rattle.base_bits.specs.declared.Cursor.{Cursor}
 use Rattle.base_bits.specs.declared.Refusal.{Refusal}
 use Rattle.base_bits.specs.Read.{read_bits}
 use Rattle.base_syntax.specs.Reader.{read, over}
-use Rattle.base_syntax.proofs.Steps.{value_lt}
+use Rattle.part_field.specs.PastEnd.{past_end}
+use Rattle.part_field.proofs.Steps.{value_lt}
 use Rattle.base_loop_filter.specs.declared.LoopFilterParams.{LoopFilterParams}
 use Rattle.base_quantization.specs.declared.QuantizationParams.{QuantizationParams}
 use Rattle.base_segmentation.specs.declared.SegmentationParams.{SegmentationParams}
@@ -34,7 +34,7 @@ pub settings_read : (lf lf₀ : LoopFilterParams) (seg seg₀ : SegmentationPara
 unfolding settings_over
 settings_read lf lf₀ seg seg₀ c x y z a b d el es ex ey ez = rw (ex, ey, ez, el, es)
 
-pub bytes_fit : (s : List ℕ) (p : ℕ) (r : Result (ℕ × Cursor) BitsError) {b : _} (n : ℕ) (c : Cursor) → r ≡ read_bits s p 16 → r ≡ result_from_control_flow b → b ≡ Continue (n, c) → Fits w16 n
+pub bytes_fit : (s : List ℕ) (p : ℕ) (r : Result (ℕ × Cursor) Refusal) {b : _} (n : ℕ) (c : Cursor) → r ≡ past_end (read_bits s p 16) → r ≡ result_from_control_flow b → b ≡ Continue (n, c) → Fits w16 n
 bytes_fit s p r n c e d h = record { fits = value_lt s p 16 r n c e d h tt }
 
 pub closing_read : (width n : ℕ) (c : Cursor) (t : Tiles) (a : TilesValues) → t ≡ tiles_of width a

@@ -59,7 +59,7 @@ pub fn parse_closing(s: &[u8], c: Cursor, width: u32) -> Read<Closing>
     ensures { result ≡ over (closing_of width) (read_closing width s.now c.at) }
 {
     let (tiles, c) = part_tiles::parse_tile_info(s, c, width)?;
-    let (bytes, c) = base_bits::read_bits(s, c, 16)?;
+    let (bytes, c) = part_field::read_field(s, c, 16)?;
     let closing = Closing {
         tiles,
         header_size_in_bytes: bytes as u16,

@@ -22,6 +22,8 @@ use Rattle.base_bits.specs.declared.Refusal.{Refusal}
 use Rattle.base_bits.specs.Read.{read_bits_if}
 use Rattle.base_syntax.specs.Reader.{tell, over, read}
 use Rattle.base_syntax.proofs.Steps.{value_if_lt}
+use Rattle.part_field.specs.PastEnd.{past_end}
+use Rattle.part_field.proofs.Steps.{value_if_lt as field_if_lt}
 use Rattle.grammar_settings.specs.Settings.{signed, prob_of}
 use Rattle.part_coded.specs.declared.Delta.{Delta}
 use Rattle.part_coded.specs.Delta.{delta_of, NarrowIs, DeltaIs}
@@ -40,8 +42,8 @@ module _ (b : Bool) (s : List ℕ) (q n : ℕ) (r : Result (ℕ × Cursor) BitsE
   unfolding delta_of
   delta_read l u g c x ex = rw (ex, to_z-of_z (signed_fits w8 m (magnitude_small l) (eqb g 1)))
 
-pub prob_fits : (b : Bool) (s : List ℕ) (q : ℕ) (r : Result (ℕ × Cursor) BitsError) → r ≡ read_bits_if b s q 8 → {b' : _} (m : ℕ) (d : Cursor) → r ≡ result_from_control_flow b' → b' ≡ Continue (m, d) → Fits w8 m
-prob_fits b s q r e m d t h = record { fits = value_if_lt b s q 8 r e tt m d t h }
+pub prob_fits : (b : Bool) (s : List ℕ) (q : ℕ) (r : Result (ℕ × Cursor) Refusal) → r ≡ past_end (read_bits_if b s q 8) → {b' : _} (m : ℕ) (d : Cursor) → r ≡ result_from_control_flow b' → b' ≡ Continue (m, d) → Fits w8 m
+prob_fits b s q r e m d t h = record { fits = field_if_lt b s q 8 r e tt m d t h }
 
 pub prob_read : (u m : ℕ) (c : Cursor) → u ≡ 1 → ◌≡◌ {A = Result (ℕ × Cursor) Refusal} (Ok (m, c)) (over prob_of (read (record { coded = u; prob = m }) c.at))
 unfolding prob_of

@@ -58,8 +58,8 @@ fn coded_delta(s: &[u8], c: Cursor, n: usize) -> Result<(Delta, Cursor), BitsErr
 pub fn read_prob(s: &[u8], c: Cursor) -> Read<u8>
     ensures { ProbIs s.now c.at result }
 {
-    let (coded, c) = base_bits::read_bits(s, c, 1)?;
-    let (prob, c) = base_bits::read_bits_if(s, c, coded == 1, 8)?;
+    let (coded, c) = part_field::read_field(s, c, 1)?;
+    let (prob, c) = part_field::read_field_if(s, c, coded == 1, 8)?;
     let prob = if coded == 1 { prob as u8 } else { 255 };
     Ok((prob, c))
 }

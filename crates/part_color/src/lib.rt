@@ -37,8 +37,8 @@ fn depth_of(profile: u32, bit: u32) -> BitDepth
 pub fn parse_color_config(s: &[u8], c: Cursor, profile: u32) -> Read<Color>
     ensures { result ≡ over (color_of profile) (read_color profile s.now c.at) }
 {
-    let (depth, c) = base_bits::read_bits_if(s, c, profile >= 2, 1)?;
-    let (space, c) = base_bits::read_bits(s, c, 3)?;
+    let (depth, c) = part_field::read_field_if(s, c, profile >= 2, 1)?;
+    let (space, c) = part_field::read_field(s, c, 3)?;
     let (sampling, c) = part_sampling::parse_sampling(s, c, profile, space)?;
     let color = Color {
         bit_depth: depth_of(profile, depth),

@@ -13,20 +13,20 @@ use mir.Syntax.{w8, w16}
 use Rattle.std.specs.Prelude.{Result, Ok}
 use Rattle.std.specs.Result.{result_from_control_flow}
 use Rattle.std.proofs.Common.{Continue}
-use Rattle.base_bits.specs.declared.BitsError.{BitsError}
 use Rattle.base_bits.specs.declared.Cursor.{Cursor}
 use Rattle.base_bits.specs.declared.Refusal.{Refusal}
 use Rattle.base_bits.specs.Read.{read_bits_if}
 use Rattle.base_syntax.specs.Reader.{over, read}
 use Rattle.grammar_settings.specs.Settings.{signed}
 use Rattle.part_coded.proofs.Signed.{signed_fits}
+use Rattle.part_field.specs.PastEnd.{past_end}
 use Rattle.part_feature.specs.declared.Feature.{Feature}
 use Rattle.part_feature.specs.Feature.{feature_of}
 use Rattle.grammar_tables.specs.Tables.{feature_bits}
 use Rattle.part_feature.proofs.Tables.{value_small}
 
 -- a feature, whose value is unsigned before its sign
-module _ (b : Bool) (s : List ℕ) (p j n : ℕ) (wide : n ≡ feature_bits j) (r : Result (ℕ × Cursor) BitsError) (e : r ≡ read_bits_if b s p n) {d : _} (m : ℕ) (c : Cursor) (t : r ≡ result_from_control_flow d) (u : d ≡ Continue (m, c)) where
+module _ (b : Bool) (s : List ℕ) (p j n : ℕ) (wide : n ≡ feature_bits j) (r : Result (ℕ × Cursor) Refusal) (e : r ≡ past_end (read_bits_if b s p n)) {d : _} (m : ℕ) (c : Cursor) (t : r ≡ result_from_control_flow d) (u : d ≡ Continue (m, c)) where
   small : m < 256
   small = value_small b s p j n wide r e m c t u
 

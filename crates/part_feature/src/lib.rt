@@ -45,10 +45,10 @@ pub struct Feature {
 pub fn parse_feature(s: &[u8], c: Cursor, j: usize) -> Read<Feature>
     ensures { FeatureIs s.now c.at j result }
 {
-    let (flag, c) = base_bits::read_bits(s, c, 1)?;
+    let (flag, c) = part_field::read_field(s, c, 1)?;
     let enabled = flag == 1;
-    let (magnitude, c) = base_bits::read_bits_if(s, c, enabled, feature_bits(j))?;
-    let (sign, c) = base_bits::read_bits_if(s, c, sign_there(enabled, j), 1)?;
+    let (magnitude, c) = part_field::read_field_if(s, c, enabled, feature_bits(j))?;
+    let (sign, c) = part_field::read_field_if(s, c, sign_there(enabled, j), 1)?;
     // The value is unsigned before its sign: its top bit is no sign.
     let value = part_coded::signed_16(magnitude as u8, sign == 1);
     Ok((Feature { enabled, value }, c))

@@ -42,7 +42,7 @@ fn read_deltas<const N: usize>(s: &[u8], c: Cursor, old: [i8; N]) -> Read<Deltas
 pub fn parse_loop_deltas(s: &[u8], c: Cursor, old: LoopFilterParams) -> Read<LoopFilterParams>
     ensures { result ≡ over (loop_deltas_of old) (read_loop_deltas s.now c.at) }
 {
-    let (update, c) = base_bits::read_bits(s, c, 1)?;
+    let (update, c) = part_field::read_field(s, c, 1)?;
     let mut lf = old;
     lf.delta_update = update == 1;
     if update != 1 {

@@ -13,20 +13,20 @@ use borrow.Author.Tests.{eq-eqb, ne_eqb}
 use Rattle.std.specs.Prelude.{Result, Ok}
 use Rattle.std.specs.Result.{result_from_control_flow}
 use Rattle.std.proofs.Common.{Continue}
-use Rattle.base_bits.specs.declared.BitsError.{BitsError}
 use Rattle.base_bits.specs.declared.Cursor.{Cursor}
 use Rattle.base_bits.specs.declared.Refusal.{Refusal}
 use Rattle.base_bits.specs.Read.{read_bits}
 use Rattle.base_syntax.specs.Syntax.{flag}
 use Rattle.base_syntax.specs.Reader.{read, over}
-use Rattle.base_syntax.proofs.Steps.{value_lt}
+use Rattle.part_field.specs.PastEnd.{past_end}
+use Rattle.part_field.proofs.Steps.{value_lt}
 use Rattle.base_loop_filter.specs.declared.LoopFilterParams.{LoopFilterParams}
 use Rattle.part_loop_deltas.specs.LoopDeltas.{with_flags, loop_deltas_of, deltas_of, LoopDeltasValues, no_loop_deltas}
 use Rattle.grammar_settings.specs.Settings.{loop_filter_of}
 use Rattle.part_loop_filter.proofs.Parts.{flat_filter}
 
 -- a value of at most 8 bits
-pub byte_fits : (s : List ℕ) (p n : ℕ) (r : Result (ℕ × Cursor) BitsError) {b : _} (m : ℕ) (c : Cursor) → r ≡ read_bits s p n → r ≡ result_from_control_flow b → b ≡ Continue (m, c) → T (leb n 8) → Fits w8 m
+pub byte_fits : (s : List ℕ) (p n : ℕ) (r : Result (ℕ × Cursor) Refusal) {b : _} (m : ℕ) (c : Cursor) → r ≡ past_end (read_bits s p n) → r ≡ result_from_control_flow b → b ≡ Continue (m, c) → T (leb n 8) → Fits w8 m
 byte_fits s p n r m c e d h l = record { fits = omega (arith, value_lt s p n r m c e d h (le→leb n 31 (omega (arith, leb→le n 8 l))), pow_mono (leb→le n 8 l)) }
 
 -- the settings with the deltas enabled and disabled

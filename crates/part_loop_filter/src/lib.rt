@@ -16,9 +16,9 @@ pub fn parse_loop_filter_params(
 ) -> Read<LoopFilterParams>
     ensures { result ≡ over (loop_filter_of false old) (read_loop_filter s.now c.at) }
 {
-    let (level, c) = base_bits::read_bits(s, c, 6)?;
-    let (sharpness, c) = base_bits::read_bits(s, c, 3)?;
-    let (enabled, c) = base_bits::read_bits(s, c, 1)?;
+    let (level, c) = part_field::read_field(s, c, 6)?;
+    let (sharpness, c) = part_field::read_field(s, c, 3)?;
+    let (enabled, c) = part_field::read_field(s, c, 1)?;
     let mut lf = old;
     lf.level = level as u8;
     lf.sharpness = sharpness as u8;

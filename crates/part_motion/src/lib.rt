@@ -12,8 +12,8 @@ use base_enums::InterpolationFilter;
 fn read_interpolation_filter(s: &[u8], c: Cursor) -> Read<InterpolationFilter>
     ensures { result ≡ over filter_of (read_filter s.now c.at) }
 {
-    let (switchable, c) = base_bits::read_bits(s, c, 1)?;
-    let (literal, c) = base_bits::read_bits_if(s, c, switchable != 1, 2)?;
+    let (switchable, c) = part_field::read_field(s, c, 1)?;
+    let (literal, c) = part_field::read_field_if(s, c, switchable != 1, 2)?;
     let filter = if switchable == 1 {
         InterpolationFilter::Switchable
     } else {
@@ -31,7 +31,7 @@ pub struct Motion {
 pub fn parse_motion(s: &[u8], c: Cursor) -> Read<Motion>
     ensures { result ≡ over motion_of (read_motion s.now c.at) }
 {
-    let (precise, c) = base_bits::read_bits(s, c, 1)?;
+    let (precise, c) = part_field::read_field(s, c, 1)?;
     let (filter, c) = read_interpolation_filter(s, c)?;
     let motion = Motion {
         allow_high_precision_mv: precise == 1,

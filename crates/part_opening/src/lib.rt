@@ -14,14 +14,14 @@ use base_bits::{Cursor, Read, Refusal};
 fn parse_profile(s: &[u8], c: Cursor) -> Read<u32>
     ensures { result ≡ over opening_profile (read_profile s.now c.at) }
 {
-    let (marker, c) = base_bits::read_bits(s, c, 2)?;
+    let (marker, c) = part_field::read_field(s, c, 2)?;
     if marker != 2 {
         return Err(Refusal::FrameMarker);
     }
-    let (low, c) = base_bits::read_bits(s, c, 1)?;
-    let (high, c) = base_bits::read_bits(s, c, 1)?;
+    let (low, c) = part_field::read_field(s, c, 1)?;
+    let (high, c) = part_field::read_field(s, c, 1)?;
     let profile = high * 2 + low;
-    let (_, c) = base_bits::read_bits_if(s, c, profile == 3, 1)?;
+    let (_, c) = part_field::read_field_if(s, c, profile == 3, 1)?;
     Ok((profile, c))
 }
 
@@ -36,9 +36,9 @@ pub fn parse_opening(s: &[u8], c: Cursor) -> Read<Opening>
     ensures { result ≡ over opening_of (read_opening s.now c.at) }
 {
     let (profile, c) = parse_profile(s, c)?;
-    let (show, c) = base_bits::read_bits(s, c, 1)?;
+    let (show, c) = part_field::read_field(s, c, 1)?;
     let shows = show == 1;
-    let (slot, c) = base_bits::read_bits_if(s, c, shows, 3)?;
+    let (slot, c) = part_field::read_field_if(s, c, shows, 3)?;
     let opening = Opening {
         profile,
         show_existing_frame: shows,
@@ -50,7 +50,7 @@ pub fn parse_opening(s: &[u8], c: Cursor) -> Read<Opening>
 pub fn parse_frame_sync_code(s: &[u8], c: Cursor) -> Read<()>
     ensures { result ≡ over sync_of (read_sync s.now c.at) }
 {
-    let (code, c) = base_bits::read_bits(s, c, 24)?;
+    let (code, c) = part_field::read_field(s, c, 24)?;
     if code != 0x498342 {
         return Err(Refusal::SyncCode);
     }

@@ -14,19 +14,19 @@ use borrow.Author.Tests.{eq-eqb, ne_eqb}
 use Rattle.std.specs.Prelude.{Result, Ok}
 use Rattle.std.specs.Result.{result_from_control_flow}
 use Rattle.std.proofs.Common.{Continue}
-use Rattle.base_bits.specs.declared.BitsError.{BitsError}
 use Rattle.base_bits.specs.declared.Cursor.{Cursor}
 use Rattle.base_bits.specs.declared.Refusal.{Refusal}
 use Rattle.base_bits.specs.Read.{read_bits}
 use Rattle.base_syntax.specs.Reader.{over, read}
-use Rattle.base_syntax.proofs.Steps.{value_lt}
+use Rattle.part_field.specs.PastEnd.{past_end}
+use Rattle.part_field.proofs.Steps.{value_lt}
 use Rattle.part_coded.specs.declared.Delta.{Delta}
 use Rattle.part_coded.specs.Delta.{delta_of}
 use Rattle.grammar_tables.specs.Tables.{DeltaValues}
 use Rattle.base_quantization.specs.declared.QuantizationParams.{QuantizationParams}
 use Rattle.grammar_settings.specs.Settings.{quantizer_of, delta_value}
 
-pub base_fits : (s : List ℕ) (p : ℕ) (r : Result (ℕ × Cursor) BitsError) {b : _} (n : ℕ) (c : Cursor) → r ≡ read_bits s p 8 → r ≡ result_from_control_flow b → b ≡ Continue (n, c) → Fits w8 n
+pub base_fits : (s : List ℕ) (p : ℕ) (r : Result (ℕ × Cursor) Refusal) {b : _} (n : ℕ) (c : Cursor) → r ≡ past_end (read_bits s p 8) → r ≡ result_from_control_flow b → b ≡ Continue (n, c) → Fits w8 n
 base_fits s p r n c e d h = record { fits = value_lt s p 8 r n c e d h tt }
 
 pub delta_q_lem : (d : Delta) (v : DeltaValues) (c : Cursor) → d ≡ delta_of v → SFits w8 d.value

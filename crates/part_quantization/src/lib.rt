@@ -21,7 +21,7 @@ fn read_delta_q(s: &[u8], c: Cursor) -> Read<i8>
 pub fn parse_quantization_params(s: &[u8], c: Cursor) -> Read<QuantizationParams>
     ensures { result ≡ over quantizer_of (read_quantizer s.now c.at) }
 {
-    let (base, c) = base_bits::read_bits(s, c, 8)?;
+    let (base, c) = part_field::read_field(s, c, 8)?;
     let (y_dc, c) = read_delta_q(s, c)?;
     let (uv_dc, c) = read_delta_q(s, c)?;
     let (uv_ac, c) = read_delta_q(s, c)?;

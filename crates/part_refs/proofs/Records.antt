@@ -11,12 +11,12 @@ use mir.Syntax.{w8}
 use Rattle.std.specs.Prelude.{Result, Ok}
 use Rattle.std.specs.Result.{result_from_control_flow}
 use Rattle.std.proofs.Common.{Continue}
-use Rattle.base_bits.specs.declared.BitsError.{BitsError}
 use Rattle.base_bits.specs.declared.Cursor.{Cursor}
 use Rattle.base_bits.specs.declared.Refusal.{Refusal}
 use Rattle.base_bits.specs.Read.{read_bits}
 use Rattle.base_syntax.specs.Reader.{over, read}
-use Rattle.base_syntax.proofs.Steps.{value_lt}
+use Rattle.part_field.specs.PastEnd.{past_end}
+use Rattle.part_field.proofs.Steps.{value_lt}
 use Rattle.part_refs.specs.declared.Ref.{Ref}
 use Rattle.part_refs.specs.Refs.{ref_of, refs_of}
 use Rattle.grammar_tables.specs.Tables.{RefValues, RefsValues}
@@ -25,7 +25,7 @@ use Rattle.part_refs.specs.declared.Sources.{Sources}
 use Rattle.part_refs.specs.Sources.{sources_of}
 
 -- a number of at most 8 bits fits a byte
-pub byte_fits : (s : List ℕ) (p n : ℕ) (r : Result (ℕ × Cursor) BitsError) {b : _} (v : ℕ) (c : Cursor) → r ≡ read_bits s p n → r ≡ result_from_control_flow b → b ≡ Continue (v, c) → T (leb n 8) → Fits w8 v
+pub byte_fits : (s : List ℕ) (p n : ℕ) (r : Result (ℕ × Cursor) Refusal) {b : _} (v : ℕ) (c : Cursor) → r ≡ past_end (read_bits s p n) → r ≡ result_from_control_flow b → b ≡ Continue (v, c) → T (leb n 8) → Fits w8 v
 byte_fits s p n r v c e d h t =
     let l : n ≤ 8 = leb→le n 8 t in
     record { fits = omega (arith, value_lt s p n r v c e d h (le→leb n 31 (omega arith)), pow_mono l) }

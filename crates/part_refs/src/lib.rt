@@ -20,8 +20,8 @@ pub struct Ref {
 fn parse_ref(s: &[u8], c: Cursor) -> Read<Ref>
     ensures { RefIs s.now c.at result }
 {
-    let (idx, c) = base_bits::read_bits(s, c, 3)?;
-    let (sign_bias, c) = base_bits::read_bits(s, c, 1)?;
+    let (idx, c) = part_field::read_field(s, c, 3)?;
+    let (sign_bias, c) = part_field::read_field(s, c, 1)?;
     let reference = Ref {
         idx: idx as u8,
         sign_bias: sign_bias as u8,
@@ -60,7 +60,7 @@ pub struct Sources {
 pub fn parse_sources(s: &[u8], c: Cursor) -> Read<Sources>
     ensures { result ≡ over sources_of (read_sources s.now c.at) }
 {
-    let (refresh, c) = base_bits::read_bits(s, c, 8)?;
+    let (refresh, c) = part_field::read_field(s, c, 8)?;
     let (refs, c) = parse_refs(s, c)?;
     let sources = Sources {
         refresh_frame_flags: refresh as u8,

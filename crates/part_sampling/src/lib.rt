@@ -55,9 +55,9 @@ pub fn parse_sampling(s: &[u8], c: Cursor, profile: u32, space: u32) -> Read<Sam
     ensures { result ≡ over (sampling_of profile space) (read_sampling profile space s.now c.at) }
 {
     let coded = (space != CS_RGB) & (profile % 2 == 1);
-    let (range, c) = base_bits::read_bits_if(s, c, space != CS_RGB, 1)?;
-    let (x, c) = base_bits::read_bits_if(s, c, coded, 1)?;
-    let (y, c) = base_bits::read_bits_if(s, c, coded, 1)?;
-    let (_, c) = base_bits::read_bits_if(s, c, profile % 2 == 1, 1)?;
+    let (range, c) = part_field::read_field_if(s, c, space != CS_RGB, 1)?;
+    let (x, c) = part_field::read_field_if(s, c, coded, 1)?;
+    let (y, c) = part_field::read_field_if(s, c, coded, 1)?;
+    let (_, c) = part_field::read_field_if(s, c, profile % 2 == 1, 1)?;
     Ok((sampling_of(profile, space, range, x, y), c))
 }

@@ -40,8 +40,8 @@ fn parse_features(s: &[u8], c: Cursor) -> Read<Features>
 pub fn parse_data(s: &[u8], c: Cursor, old: SegmentationParams) -> Read<SegmentationParams>
     ensures { DataIs s.now c.at old result }
 {
-    let (update, c) = base_bits::read_bits(s, c, 1)?;
-    let (absolute, c) = base_bits::read_bits_if(s, c, update == 1, 1)?;
+    let (update, c) = part_field::read_field(s, c, 1)?;
+    let (absolute, c) = part_field::read_field_if(s, c, update == 1, 1)?;
     let mut seg = old;
     seg.update_data = update == 1;
     if update != 1 {

@@ -35,9 +35,9 @@ fn read_probs_if<const N: usize>(s: &[u8], c: Cursor, there: bool) -> Read<[u8; 
 pub fn parse_map(s: &[u8], c: Cursor, old: SegmentationParams) -> Read<SegmentationParams>
     ensures { MapIs s.now c.at old result }
 {
-    let (update, c) = base_bits::read_bits(s, c, 1)?;
+    let (update, c) = part_field::read_field(s, c, 1)?;
     let (tree_probs, c) = read_probs_if(s, c, update == 1)?;
-    let (temporal, c) = base_bits::read_bits_if(s, c, update == 1, 1)?;
+    let (temporal, c) = part_field::read_field_if(s, c, update == 1, 1)?;
     let (pred_probs, c) = read_probs_if(s, c, temporal == 1)?;
     let mut seg = old;
     seg.update_map = update == 1;

@@ -14,7 +14,7 @@ pub fn parse_segmentation_params(
 ) -> Read<SegmentationParams>
     ensures { SegmentationIs s.now c.at old result }
 {
-    let (enabled, c) = base_bits::read_bits(s, c, 1)?;
+    let (enabled, c) = part_field::read_field(s, c, 1)?;
     let mut seg = old;
     seg.enabled = enabled == 1;
     seg.update_map = false;

@@ -7,16 +7,17 @@ use native.Mathlib.Omega.{arith}
 use borrow.Author.Tests.{ne_eqb}
 use Rattle.base_bits.specs.declared.Cursor.{Cursor}
 use Rattle.base_bits.specs.declared.Refusal.{Refusal}
-use Rattle.base_bits.specs.declared.Refusal.TheVariants.{PastEnd}
 use Rattle.std.specs.Prelude.{Result, Ok, Err, Option, Some, None}
 use Rattle.std.specs.Result.{IsErrAnd, result_from_control_flow}
 use Rattle.std.proofs.Common.{Continue, Break}
 use Rattle.std.proofs.lemmas.Result.{err_from_is_err_and}
+use Rattle.base_bits.specs.Read.{read_bits}
+use Rattle.part_field.specs.PastEnd.{past_end}
 use Rattle.base_syntax.specs.Reader.{Read, read, stopped, bind, group_if, over, alter, Reader, give, field, field_if, ◌>>=◌, said}
 use Rattle.base_shared.specs.Choice.{pick}
 use Rattle.base_syntax.proofs.Steps.{group_step, group_stop, tail, alter_over}
 use Rattle.grammar_tables.specs.Reading.{read_run, no_size_values, read_frame_size, read_render, read_found}
-use Rattle.part_coded.proofs.Run.{Counted, counted_full}
+use Rattle.part_coded.proofs.Run.{Counted, counted_full, counted_short}
 use Rattle.base_size.specs.declared.FrameSize.{FrameSize}
 use Rattle.part_refs.specs.declared.Refs.{Refs}
 use Rattle.part_sizes.specs.declared.Sizes.{Sizes}
@@ -91,8 +92,9 @@ module _ (s : List ℕ) where
     pub found_nothing : {k : ℕ} (c : Cursor) → Counted "found_ref" 0 3 s p k c.at → 3 ≤ k → Ok (None, c) ≡ over found_ref (read_found s p)
     found_nothing {k} c l h = let z : k ≡ 3 = omega (arith, l.within) in rw z at (as_found _ (counted_full l h))
 
-    pub found_short : (y : Result (Option ℕ × Cursor) Refusal) → IsErrAnd y (λ w. w ≡ PastEnd) → Err PastEnd ≡ over (λ k. k) (run 0 3 s p) → y ≡ over found_ref (read_found s p)
-    found_short y i e = let j = err_from_is_err_and y i in rw (j.1, j.2) (as_found _ e)
+    pub found_short : {k q : ℕ} → Counted "found_ref" 0 3 s p k q → k < 3 → (r : Result (ℕ × Cursor) Refusal) → r ≡ past_end (read_bits s q 1) → {d : _} → r ≡ result_from_control_flow d
+        → {u : _} (y : Result (Option ℕ × Cursor) Refusal) → d ≡ Break u → IsErrAnd y (λ w. w ≡ u.0) → y ≡ over found_ref (read_found s p)
+    found_short l h r e f {u} y t i = let j = err_from_is_err_and y i in rw (j.1, j.2) (as_found _ (counted_short l h r e f (Err u.0) t refl))
 
 -- two readings that differ only in how they go on
 alike : {A B C D : Type 0} (f : B → D) (g : C → D) (k : A → ℕ → Read B) (l : A → ℕ → Read C) (m : Read A)

@@ -13,19 +13,24 @@ use part_sizes::Sizes;
 
 const REFS_PER_FRAME: usize = 3;
 
-// Which reference gives the size, if any: the first whose found_ref is 1, and no flag after it is there.
+// Which reference gives the size, if any: reading stops at the first of the three flags that is 1.
 fn find_ref(s: &[u8], c: Cursor) -> Read<Option<usize>>
     ensures { result ≡ over found_ref (read_found s.now c.at) }
 {
     let mut at = c;
-    for i in 0..REFS_PER_FRAME {
-        let (flag, next) = base_bits::read_bits(s, at, 1)?;
-        if flag != 0 {
-            return Ok((Some(i), next));
+    let mut i: usize = 0;
+    let found = loop {
+        if i >= REFS_PER_FRAME {
+            break None;
         }
+        let (flag, next) = part_field::read_field(s, at, 1)?;
         at = next;
-    }
-    Ok((None, at))
+        if flag != 0 {
+            break Some(i);
+        }
+        i += 1;
+    };
+    Ok((found, at))
 }
 
 // The slot of reference i.

@@ -14,8 +14,8 @@ use base_size::FrameSize;
 fn parse_frame_size(s: &[u8], c: Cursor) -> Read<FrameSize>
     ensures { SizeIs s.now c.at result }
 {
-    let (width, c) = base_bits::read_bits(s, c, 16)?;
-    let (height, c) = base_bits::read_bits(s, c, 16)?;
+    let (width, c) = part_field::read_field(s, c, 16)?;
+    let (height, c) = part_field::read_field(s, c, 16)?;
     let size = FrameSize {
         width: width + 1,
         height: height + 1,
@@ -50,7 +50,7 @@ pub struct Sizes {
 pub fn parse_render_size(s: &[u8], c: Cursor, frame: FrameSize) -> Read<Sizes>
     ensures { result ≡ over (with_render frame) (read_render s.now c.at) }
 {
-    let (flag, c) = base_bits::read_bits(s, c, 1)?;
+    let (flag, c) = part_field::read_field(s, c, 1)?;
     let different = flag == 1;
     let (size, c) = size_or(s, c, different, frame)?;
     let render = Render { different, size };

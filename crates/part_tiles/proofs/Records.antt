@@ -13,12 +13,12 @@ use Rattle.std.specs.Prelude.{Result, Ok, Err}
 use Rattle.std.specs.Result.{IsErrAnd, result_from_control_flow}
 use Rattle.std.proofs.Common.{Continue, Break}
 use Rattle.std.proofs.lemmas.Result.{err_from_is_err_and}
-use Rattle.base_bits.specs.declared.BitsError.{BitsError}
 use Rattle.base_bits.specs.declared.Cursor.{Cursor}
 use Rattle.base_bits.specs.declared.Refusal.{Refusal}
 use Rattle.base_bits.specs.Read.{read_bits, read_bits_if}
 use Rattle.base_syntax.specs.Reader.{Read, read, stopped, over}
-use Rattle.base_syntax.proofs.Steps.{value_lt, value_if_lt}
+use Rattle.part_field.specs.PastEnd.{past_end}
+use Rattle.part_field.proofs.Steps.{value_lt, value_if_lt}
 use Rattle.grammar_tables.specs.Reading.{read_run, read_cols}
 use Rattle.part_coded.proofs.Run.{Counted, counted_full}
 use Rattle.part_tiles.specs.declared.Tiles.{Tiles}
@@ -72,8 +72,8 @@ module _ (width w lo hi : ℕ) (ew : w ≡ superblocks width) (el : lo ≡ least
         rw (j.1, j.2, ← lo_is, ← hi_is) (uncounted (cols_of width) (read_run "increment_tile_cols_log2" 1 0 (hi - lo) s p) z.0 (sym (rw h at d) ∙ e))
 
 -- the rows: the sum of two bits
-pub rows_fit : (w : Width) (s : List ℕ) (p q a m : ℕ) (x y : Result (ℕ × Cursor) BitsError) (c d : Cursor) {f g : _} (b : Bool)
-    → x ≡ read_bits s p 1 → x ≡ result_from_control_flow f → f ≡ Continue (a, c) → y ≡ read_bits_if b s q 1 → y ≡ result_from_control_flow g → g ≡ Continue (m, d) → T (leb 3 (2 ^ bits w)) → Fits w (a + m)
+pub rows_fit : (w : Width) (s : List ℕ) (p q a m : ℕ) (x y : Result (ℕ × Cursor) Refusal) (c d : Cursor) {f g : _} (b : Bool)
+    → x ≡ past_end (read_bits s p 1) → x ≡ result_from_control_flow f → f ≡ Continue (a, c) → y ≡ past_end (read_bits_if b s q 1) → y ≡ result_from_control_flow g → g ≡ Continue (m, d) → T (leb 3 (2 ^ bits w)) → Fits w (a + m)
 rows_fit w s p q a m x y c d b ex fx ax ey fy ay t =
     let one = value_lt s p 1 x a c ex fx ax tt in
     let two = value_if_lt b s q 1 y ey tt m d fy ay in

@@ -58,7 +58,7 @@ fn increments(s: &[u8], c: Cursor, limit: u8) -> Read<u8>
 {
     let mut at = c;
     for k in 0..limit {
-        let (more, next) = base_bits::read_bits(s, at, 1)?;
+        let (more, next) = part_field::read_field(s, at, 1)?;
         if more != 1 {
             return Ok((k, next));
         }
@@ -83,8 +83,8 @@ pub fn parse_tile_info(s: &[u8], c: Cursor, width: u32) -> Read<Tiles>
     ensures { result ≡ over (tiles_of width) (read_tiles width s.now c.at) }
 {
     let (cols_log2, c) = tile_cols(s, c, width)?;
-    let (rows, c) = base_bits::read_bits(s, c, 1)?;
-    let (more, c) = base_bits::read_bits_if(s, c, rows == 1, 1)?;
+    let (rows, c) = part_field::read_field(s, c, 1)?;
+    let (more, c) = part_field::read_field_if(s, c, rows == 1, 1)?;
     let tiles = Tiles {
         cols_log2,
         rows_log2: (rows + more) as u8,

@@ -20,9 +20,9 @@ pub struct Traits {
 pub fn parse_traits(s: &[u8], c: Cursor) -> Read<Traits>
     ensures { result ≡ over traits_of (read_traits s.now c.at) }
 {
-    let (kind, c) = base_bits::read_bits(s, c, 1)?;
-    let (show, c) = base_bits::read_bits(s, c, 1)?;
-    let (resilient, c) = base_bits::read_bits(s, c, 1)?;
+    let (kind, c) = part_field::read_field(s, c, 1)?;
+    let (show, c) = part_field::read_field(s, c, 1)?;
+    let (resilient, c) = part_field::read_field(s, c, 1)?;
     let traits = Traits {
         key: kind == 0,
         show_frame: show == 1,
@@ -41,8 +41,8 @@ pub struct Kind {
 pub fn parse_kind(s: &[u8], c: Cursor, show_frame: bool, error_resilient_mode: bool) -> Read<Kind>
     ensures { result ≡ over kind_of (read_kind show_frame error_resilient_mode s.now c.at) }
 {
-    let (intra, c) = base_bits::read_bits_if(s, c, !show_frame, 1)?;
-    let (reset, c) = base_bits::read_bits_if(s, c, !error_resilient_mode, 2)?;
+    let (intra, c) = part_field::read_field_if(s, c, !show_frame, 1)?;
+    let (reset, c) = part_field::read_field_if(s, c, !error_resilient_mode, 2)?;
     let kind = Kind {
         intra_only: intra == 1,
         reset_frame_context: reset as u8,
@@ -62,9 +62,9 @@ pub fn parse_context(s: &[u8], c: Cursor, error_resilient_mode: bool) -> Read<Co
     ensures { result ≡ over (context_of error_resilient_mode) (read_context error_resilient_mode s.now c.at) }
 {
     let coded = !error_resilient_mode;
-    let (refresh, c) = base_bits::read_bits_if(s, c, coded, 1)?;
-    let (parallel, c) = base_bits::read_bits_if(s, c, coded, 1)?;
-    let (idx, c) = base_bits::read_bits(s, c, 2)?;
+    let (refresh, c) = part_field::read_field_if(s, c, coded, 1)?;
+    let (parallel, c) = part_field::read_field_if(s, c, coded, 1)?;
+    let (idx, c) = part_field::read_field(s, c, 2)?;
     let context = Context {
         refresh_frame_context: refresh == 1,
         frame_parallel_decoding_mode: error_resilient_mode || parallel == 1,

@@ -1,4 +1,5 @@
-use Rattle.base_syntax.proofs.Steps.{reading, group_step, group_stop}
+use Rattle.base_syntax.proofs.Steps.{group_step, group_stop}
+use Rattle.part_field.proofs.Steps.{reading}
 use Rattle.header_picture.specs.IntraOnly.{read_intra_only}
 use Rattle.header_picture.proofs.Records.{refresh_fits, intra_only_read}
 use Rattle.header_picture.proofs.parse_intra_only.Goals as goal

@@ -1,4 +1,5 @@
-use Rattle.base_syntax.proofs.Steps.{reading, group_step, group_stop}
+use Rattle.base_syntax.proofs.Steps.{group_step, group_stop}
+use Rattle.part_field.proofs.Steps.{reading}
 use Rattle.header_tail.specs.Closing.{read_closing}
 use Rattle.header_tail.proofs.Records.{bytes_fit, closing_read}
 use Rattle.header_tail.proofs.parse_closing.Goals as goal

@@ -1,4 +1,4 @@
-use Rattle.base_syntax.proofs.Steps.{reading}
+use Rattle.part_field.proofs.Steps.{reading}
 use Rattle.grammar_tables.specs.Reading.{read_prob}
 use Rattle.part_coded.proofs.Records.{prob_fits, prob_read, prob_none}
 use Rattle.part_coded.proofs.read_prob.Goals as goal

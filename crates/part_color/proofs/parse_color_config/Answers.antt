@@ -1,4 +1,5 @@
-use Rattle.base_syntax.proofs.Steps.{reading, group_step, group_stop}
+use Rattle.base_syntax.proofs.Steps.{group_step, group_stop}
+use Rattle.part_field.proofs.Steps.{reading}
 use Rattle.base_syntax.proofs.Binds.{as_parts}
 use Rattle.part_color.proofs.Parts.{in_parts_lem}
 use Rattle.part_color.proofs.Records.{color_read}

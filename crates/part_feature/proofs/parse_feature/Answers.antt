@@ -1,4 +1,4 @@
-use Rattle.base_syntax.proofs.Steps.{reading}
+use Rattle.part_field.proofs.Steps.{reading}
 use Rattle.grammar_tables.specs.Reading.{read_feature}
 use Rattle.part_feature.proofs.Records.{value_fits, feature_read}
 use Rattle.part_feature.proofs.Tables.{value_step, value_stop}

@@ -1,5 +1,6 @@
 use borrow.Author.Tests.{eq-eqb, ne_eqb}
-use Rattle.base_syntax.proofs.Steps.{reading, group_step, group_stop}
+use Rattle.base_syntax.proofs.Steps.{group_step, group_stop}
+use Rattle.part_field.proofs.Steps.{reading}
 use Rattle.part_loop_deltas.specs.LoopDeltas.{read_loop_deltas}
 use Rattle.part_loop_deltas.proofs.Records.{refs_read, modes_read, deltas_moved, deltas_kept}
 use Rattle.part_loop_deltas.proofs.parse_loop_deltas.Goals as goal

@@ -1,6 +1,7 @@
 use borrow.Author.Tests.{eq-eqb, ne_eqb}
 use Rattle.base_syntax.proofs.Binds.{as_parts}
-use Rattle.base_syntax.proofs.Steps.{reading, tail}
+use Rattle.base_syntax.proofs.Steps.{tail}
+use Rattle.part_field.proofs.Steps.{reading}
 use Rattle.part_loop_filter.proofs.Parts.{in_parts_lem}
 use Rattle.part_loop_filter.proofs.Records.{byte_fits, filter_moved, filter_plain}
 use Rattle.part_loop_filter.proofs.parse_loop_filter_params.Goals as goal

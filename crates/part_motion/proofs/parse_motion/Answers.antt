@@ -1,4 +1,5 @@
-use Rattle.base_syntax.proofs.Steps.{reading, group_step, group_stop}
+use Rattle.base_syntax.proofs.Steps.{group_step, group_stop}
+use Rattle.part_field.proofs.Steps.{reading}
 use Rattle.part_motion.specs.Motion.{read_motion}
 use Rattle.part_motion.proofs.Records.{motion_read}
 use Rattle.part_motion.proofs.parse_motion.Goals as goal

@@ -1,4 +1,4 @@
-use Rattle.base_syntax.proofs.Steps.{reading}
+use Rattle.part_field.proofs.Steps.{reading}
 use Rattle.part_motion.specs.Filter.{read_filter}
 use Rattle.part_motion.proofs.Records.{switchable, literal}
 use Rattle.part_motion.proofs.read_interpolation_filter.Goals as goal

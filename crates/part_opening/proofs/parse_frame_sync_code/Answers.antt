@@ -1,4 +1,4 @@
-use Rattle.base_syntax.proofs.Steps.{reading}
+use Rattle.part_field.proofs.Steps.{reading}
 use Rattle.grammar_tables.specs.Reading.{read_sync}
 use Rattle.part_opening.proofs.parse_frame_sync_code.Goals as goal
 

@@ -1,4 +1,5 @@
-use Rattle.base_syntax.proofs.Steps.{reading, group_step, group_stop}
+use Rattle.base_syntax.proofs.Steps.{group_step, group_stop}
+use Rattle.part_field.proofs.Steps.{reading}
 use Rattle.part_opening.specs.Opening.{read_opening}
 use Rattle.part_opening.proofs.Records.{slot_fits, opening_read}
 use Rattle.part_opening.proofs.parse_opening.Goals as goal

@@ -1,4 +1,4 @@
-use Rattle.base_syntax.proofs.Steps.{reading}
+use Rattle.part_field.proofs.Steps.{reading}
 use Rattle.part_opening.specs.Profile.{read_profile}
 use Rattle.part_opening.proofs.Records.{twice_fits, profile_fits}
 use Rattle.part_opening.proofs.parse_profile.Goals as goal

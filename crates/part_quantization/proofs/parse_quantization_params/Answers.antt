@@ -1,4 +1,4 @@
-use Rattle.base_syntax.proofs.Steps.{reading}
+use Rattle.part_field.proofs.Steps.{reading}
 use Rattle.grammar_tables.specs.Reading.{read_quantizer}
 use Rattle.part_quantization.proofs.Steps.{delta_q_step, delta_q_stop}
 use Rattle.part_quantization.proofs.Records.{base_fits, quantizer}

@@ -1,4 +1,4 @@
-use Rattle.base_syntax.proofs.Steps.{reading}
+use Rattle.part_field.proofs.Steps.{reading}
 use Rattle.part_refs.specs.Refs.{ref_of}
 use Rattle.grammar_tables.specs.Reading.{read_ref}
 use Rattle.part_refs.proofs.Records.{byte_fits}

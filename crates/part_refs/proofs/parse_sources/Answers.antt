@@ -1,4 +1,5 @@
-use Rattle.base_syntax.proofs.Steps.{reading, group_step, group_stop}
+use Rattle.base_syntax.proofs.Steps.{group_step, group_stop}
+use Rattle.part_field.proofs.Steps.{reading}
 use Rattle.part_refs.specs.Sources.{read_sources}
 use Rattle.part_refs.proofs.Records.{byte_fits, sources_read}
 use Rattle.part_refs.proofs.parse_sources.Goals as goal

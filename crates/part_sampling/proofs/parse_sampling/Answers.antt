@@ -1,4 +1,4 @@
-use Rattle.base_syntax.proofs.Steps.{reading}
+use Rattle.part_field.proofs.Steps.{reading}
 use Rattle.part_sampling.specs.Sampling.{read_sampling}
 use Rattle.part_sampling.proofs.Records.{sampling_read}
 use Rattle.part_sampling.proofs.parse_sampling.Goals as goal

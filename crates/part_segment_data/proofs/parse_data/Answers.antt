@@ -1,4 +1,5 @@
-use Rattle.base_syntax.proofs.Steps.{reading, group_step, group_stop}
+use Rattle.base_syntax.proofs.Steps.{group_step, group_stop}
+use Rattle.part_field.proofs.Steps.{reading}
 use borrow.Author.Tests.{eq-eqb, ne_eqb}
 use Rattle.part_segment_data.specs.Data.{read_data}
 use Rattle.part_segment_data.proofs.Records.{data_read, data_kept}

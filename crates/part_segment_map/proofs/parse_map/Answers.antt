@@ -1,4 +1,4 @@
-use Rattle.base_syntax.proofs.Steps.{reading}
+use Rattle.part_field.proofs.Steps.{reading}
 use Rattle.part_segment_map.specs.Map.{read_map}
 use Rattle.part_segment_map.proofs.Steps.{probs_step, probs_stop}
 use Rattle.part_segment_map.proofs.Records.{map_read, map_kept}

@@ -1,5 +1,6 @@
 use borrow.Author.Tests.{eq-eqb, ne_eqb}
-use Rattle.base_syntax.proofs.Steps.{reading, group_step, group_stop, tail}
+use Rattle.base_syntax.proofs.Steps.{group_step, group_stop, tail}
+use Rattle.part_field.proofs.Steps.{reading}
 use Rattle.base_syntax.proofs.Binds.{as_parts}
 use Rattle.part_segmentation.proofs.Parts.{in_parts_lem}
 use Rattle.part_segmentation.proofs.Records.{off_read, parts_read}

@@ -1,4 +1,4 @@
-use Rattle.base_syntax.proofs.Steps.{reading, sum_fits}
+use Rattle.part_field.proofs.Steps.{reading, sum_fits}
 use Rattle.grammar_tables.specs.Reading.{read_size}
 use Rattle.grammar_tables.specs.Header.{size_of}
 use Rattle.part_sizes.proofs.parse_frame_size.Goals as goal

@@ -1,4 +1,4 @@
-use Rattle.base_syntax.proofs.Steps.{reading}
+use Rattle.part_field.proofs.Steps.{reading}
 use Rattle.grammar_tables.specs.Reading.{read_render}
 use Rattle.part_sizes.proofs.Steps.{size_or_step, size_or_stop}
 use Rattle.part_sizes.proofs.Records.{render_read}

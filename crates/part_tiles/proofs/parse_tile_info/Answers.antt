@@ -1,4 +1,5 @@
-use Rattle.base_syntax.proofs.Steps.{reading, group_step, group_stop}
+use Rattle.base_syntax.proofs.Steps.{group_step, group_stop}
+use Rattle.part_field.proofs.Steps.{reading}
 use Rattle.grammar_tables.specs.Reading.{read_tiles}
 use Rattle.part_tiles.proofs.Records.{rows_fit, tiles_read}
 use Rattle.part_tiles.proofs.parse_tile_info.Goals as goal

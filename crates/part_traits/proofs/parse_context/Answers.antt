@@ -1,5 +1,5 @@
 use mathlib.Core.Path.{◌≡◌}
-use Rattle.base_syntax.proofs.Steps.{reading}
+use Rattle.part_field.proofs.Steps.{reading}
 use Rattle.part_traits.specs.Context.{read_context, parallel_of, context_of}
 use Rattle.part_traits.proofs.Records.{idx_fits}
 use Rattle.part_traits.proofs.parse_context.Goals.{then-error_resilient_mode, else-error_resilient_mode}

@@ -1,4 +1,4 @@
-use Rattle.base_syntax.proofs.Steps.{reading}
+use Rattle.part_field.proofs.Steps.{reading}
 use Rattle.part_traits.specs.Kind.{read_kind, kind_of}
 use Rattle.part_traits.proofs.Records.{reset_fits}
 use Rattle.part_traits.proofs.parse_kind.Goals as goal

@@ -1,4 +1,4 @@
-use Rattle.base_syntax.proofs.Steps.{reading}
+use Rattle.part_field.proofs.Steps.{reading}
 use Rattle.part_traits.specs.Traits.{read_traits, traits_of}
 use Rattle.part_traits.proofs.parse_traits.Goals as goal
 
