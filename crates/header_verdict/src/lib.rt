@@ -13,15 +13,12 @@ ghost use Rattle.header_verdict.specs.Verdict.{
 
 use base_bits::Refusal;
 
-// The number of what is accepted.
-const ACCEPTED: u8 = 0;
-
 // docs/RULES.md's number, and 0 for what is accepted.
 pub fn header_number<T>(answer: &Result<T, Refusal>) -> u8
     ensures { result ≡ verdict_number (verdict_of answer.now) }
 {
     match answer {
-        Ok(_) => ACCEPTED,
+        Ok(_) => 0,
         Err(e) => e.number(),
     }
 }
@@ -46,9 +43,9 @@ pub fn frame_number<T>(answer: &Result<T, FrameRefusal>) -> u8
     ensures { result ≡ place_number (place_of answer.now) }
 {
     match answer {
-        Ok(_) => ACCEPTED,
+        Ok(_) => header_number::<()>(&Ok(())),
         Err(FrameRefusal::Outside) => 3,
-        Err(FrameRefusal::Header(e)) => e.number(),
+        Err(FrameRefusal::Header(e)) => header_number::<()>(&Err(*e)),
     }
 }
 
