@@ -17,13 +17,7 @@ fn list(streams: &mut Streams, buf: &mut [u8], out: &mut [u8]) -> Ending {
     let mut at = 0;
     let mut ending = Ending::Done;
     for _ in 0..u64::MAX {
-        let fed = listing_lister::feed(
-            lister,
-            input.at_hand(buf),
-            input.ended,
-            out,
-            at,
-        );
+        let fed = listing_lister::feed(lister, input.at_hand(buf), input.ended, out, at);
         lister = fed.lister;
         input = input.used(fed.used);
         at = fed.at;

@@ -527,11 +527,7 @@ fn trace_file(streams: &mut Streams, mut page: Page, buf: &mut [u8]) -> Ending {
     let mut tracer = Tracer::new();
     let mut ending = Ending::Done;
     for _ in 0..u64::MAX {
-        let traced = listing_tracer::next_item(
-            tracer,
-            input.at_hand(buf),
-            input.ended,
-        );
+        let traced = listing_tracer::next_item(tracer, input.at_hand(buf), input.ended);
         tracer = traced.tracer;
         input = input.used(traced.used);
         match traced.yields {
