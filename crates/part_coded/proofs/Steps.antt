@@ -1,12 +1,10 @@
--- What `read_delta` learns of a bit read that fails, and what its callers learn of it, as steps along their readings.
+-- What the callers of `read_delta` learn of it, as steps along their readings.
 -- Assumes nothing.
 use Prim.Native.Nat.{ℕ, ◌+◌}
 use mathlib.Core.Path.{◌≡◌, refl, sym, ◌∙◌}
 use mathlib.Core.Bool.{Bool, true, false}
 use mathlib.Core.List.{List}
 use native.Mathlib.Omega.{arith}
-use lib.Dec.{T, leb, leb→le}
-use borrow.Author.Tests.{le-leb}
 use Rattle.std.specs.Prelude.{Result, Ok, Err}
 use Rattle.std.specs.Result.{IsErrAnd, result_from_control_flow}
 use Rattle.std.proofs.Common.{Continue, Break}
@@ -17,38 +15,15 @@ use Rattle.base_bits.specs.declared.Cursor.{Cursor}
 use Rattle.base_bits.specs.declared.Refusal.{Refusal}
 use Rattle.base_bits.specs.declared.Refusal.TheVariants.{PastEnd}
 use Rattle.base_bits.specs.Bit.{number, fits}
-use Rattle.base_bits.specs.Read.{read_bits, read_bits_if}
 use Rattle.base_bits.specs.Refusal.{Name}
 use Rattle.base_shared.specs.Choice.{pick}
 use Rattle.base_syntax.specs.Fault.{Reason, cut_at}
 use Rattle.base_syntax.specs.Reader.{Read, read, stopped, bind, field, field_if, tell, over, said}
-use Rattle.base_syntax.proofs.Steps.{stop, stop_if, group_step}
+use Rattle.base_syntax.proofs.Steps.{group_step}
 use Rattle.part_coded.specs.declared.Delta.{Delta}
 use Rattle.part_coded.specs.Delta.{delta_of, NarrowIs}
 use Rattle.grammar_tables.specs.Tables.{DeltaValues}
 use Rattle.grammar_tables.specs.Reading.{read_delta}
-
--- a bit read of at most 31 bits fails only where it is short
-short_only : (s : List ℕ) (p n : ℕ) (u : BitsError) → T (leb n 31) → Err u ≡ read_bits s p n → u ≡ Short
-unfolding read_bits
-short_only s p n u t e = go (fits s p n) (rw (le-leb n 31 (leb→le n 31 t)) at e)
-  where
-    go : (b : Bool) → ◌≡◌ {A = Result (ℕ × Cursor) BitsError} (Err u) (pick b (Ok (number s p n, record { at = p + n })) (Err Short)) → u ≡ Short
-    go true e = let z : ◌≡◌ {A = ℕ} 0 1 = cc in absurd (omega arith)
-    go false e = cc
-
-short_if : (b : Bool) (s : List ℕ) (p n : ℕ) (u : BitsError) → T (leb n 31) → Err u ≡ read_bits_if b s p n → u ≡ Short
-unfolding read_bits_if
-short_if true s p n u t e = short_only s p n u t e
-short_if false s p n u t e = let z : ◌≡◌ {A = ℕ} 0 1 = cc in absurd (omega arith)
-
--- the exits of `read_delta`, whose `?` hands on a bit read's own error
-module _ {A B : Type 0} (x : Name) (s : List ℕ) (p n : ℕ) (f : A → B) (k : ℕ → ℕ → Read A) (r : Result (ℕ × Cursor) BitsError) where
-  pub own_stop : {b : _} {u : _} (y : Result (B × Cursor) BitsError) → r ≡ read_bits s p n → r ≡ result_from_control_flow b → b ≡ Break u → T (leb n 31) → IsErrAnd y (λ w. w ≡ u.0) → y ≡ tell (λ w. Short) f (bind (field x n s p) k)
-  own_stop y e d h t i = stop (λ w. Short) x s p n f k r e y d h t (rw (short_only s p n _ t (sym (rw h at d) ∙ e)) at i)
-
-  pub own_stop_if : (c : Bool) {b : _} {u : _} (y : Result (B × Cursor) BitsError) → r ≡ read_bits_if c s p n → r ≡ result_from_control_flow b → b ≡ Break u → T (leb n 31) → IsErrAnd y (λ w. w ≡ u.0) → y ≡ tell (λ w. Short) f (bind (field_if c x n s p) k)
-  own_stop_if c y e d h t i = stop_if (λ w. Short) c c refl x s p n f k r e t y d h (rw (short_if c s p n _ t (sym (rw h at d) ∙ e)) at i)
 
 -- a reading that stops only past the end
 abbrev Cut : {A : Type 0} → Read A → Type 0

@@ -3,7 +3,7 @@
 
 ghost use Rattle.std.specs.Prelude.{◌<◌, ◌≤◌, ◌≡◌};
 ghost use Rattle.grammar_settings.specs.Settings.{signed};
-ghost use Rattle.part_coded.specs.Delta.{NarrowIs, DeltaIs};
+ghost use Rattle.part_coded.specs.Delta.{CodedIs, DeltaIs};
 ghost use Rattle.part_coded.specs.Prob.{ProbIs};
 
 use base_bits::{BitsError, Cursor, Read};
@@ -39,17 +39,20 @@ pub fn read_delta(s: &[u8], c: Cursor, n: usize) -> Result<(Delta, Cursor), Bits
     if n > 7 {
         return Err(BitsError::TooWide);
     }
-    coded_delta(s, c, n)
+    match coded_delta(s, c, n) {
+        Ok(read) => Ok(read),
+        Err(_) => Err(BitsError::Short),
+    }
 }
 
-fn coded_delta(s: &[u8], c: Cursor, n: usize) -> Result<(Delta, Cursor), BitsError>
+fn coded_delta(s: &[u8], c: Cursor, n: usize) -> Read<Delta>
     requires { n ≤ 7 }
-    ensures { NarrowIs s.now c.at n result }
+    ensures { CodedIs s.now c.at n result }
 {
-    let (flag, c) = base_bits::read_bits(s, c, 1)?;
+    let (flag, c) = part_field::read_field(s, c, 1)?;
     let coded = flag == 1;
-    let (magnitude, c) = base_bits::read_bits_if(s, c, coded, n)?;
-    let (sign, c) = base_bits::read_bits_if(s, c, coded, 1)?;
+    let (magnitude, c) = part_field::read_field_if(s, c, coded, n)?;
+    let (sign, c) = part_field::read_field_if(s, c, coded, 1)?;
     let value = signed_8(magnitude, sign == 1);
     Ok((Delta { coded, value }, c))
 }
